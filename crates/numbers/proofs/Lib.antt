@@ -1,0 +1,12 @@
+pub mod Differences
+pub mod Doubling
+pub mod ExactLaws
+pub mod Examples
+pub mod LimitLaws
+pub mod LineLaws
+pub mod OrderLaws
+pub mod Orders
+pub mod RealCases
+pub mod Rounding
+pub mod Tests
+pub mod Weighing

@@ -1,0 +1,15 @@
+// INTEGER16 from the low 16 bits of a word.
+ghost use mathlib.Core.Path.{_≡_};
+ghost use Rattle.numbers.specs.Signed.{signed16};
+use crate::count::lower;
+
+// The upper half of the patterns counts from -32768.
+pub fn signed(word: u32) -> i16
+    ensures { λ r. ⌜ r ≡ signed16 word ⌝ }
+{
+    let low = word % 0x1_0000;
+    if low < 0x8000 {
+        return low as i16;
+    }
+    lower(low - 0x8000)
+}
