@@ -1,0 +1,18 @@
+use Rattle.numbers.proofs.Tests.{tests}
+use Rattle.numbers.specs.Choice.{first}
+use lib.Dec.{lit<}
+use native.Mathlib.Omega.{arith}
+use Rattle.dictionary.proofs.Families.{rows-by-digits, by-digits, below-3000, error-register}
+use Rattle.dictionary.proofs.objects.error_register.Statement.{statement}
+use Rattle.dictionary.proofs.objects.error_register.Tie as tie
+
+returns : tie.Need-returns
+unfolding by-digits below-3000 error-register first
+returns c = rows-by-digits 0x10 _ (lit< tt) (omega arith) _ (search tests)
+
+returns-2 : tie.Need-returns-2
+unfolding by-digits below-3000 error-register first
+returns-2 c = rows-by-digits 0x10 _ (lit< tt) (omega arith) _ (search tests)
+
+pub error-register-spec : {M : Type 1} → statement M
+error-register-spec = tie.close (tie.spec returns returns-2)

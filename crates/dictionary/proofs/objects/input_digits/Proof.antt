@@ -1,0 +1,18 @@
+use Rattle.numbers.proofs.Tests.{tests}
+use Rattle.numbers.specs.Choice.{first}
+use lib.Dec.{lit<}
+use native.Mathlib.Omega.{arith}
+use Rattle.dictionary.proofs.Families.{rows-by-digits, by-digits, from-5000, input-digits}
+use Rattle.dictionary.proofs.objects.input_digits.Statement.{statement}
+use Rattle.dictionary.proofs.objects.input_digits.Tie as tie
+
+returns : tie.Need-returns
+unfolding by-digits from-5000 input-digits first
+returns c = rows-by-digits 0x61 _ (lit< tt) (omega arith) _ (search tests)
+
+returns-2 : tie.Need-returns-2
+unfolding by-digits from-5000 input-digits first
+returns-2 c = rows-by-digits 0x61 _ (lit< tt) (omega arith) _ (search tests)
+
+pub input-digits-spec : {M : Type 1} → statement M
+input-digits-spec = tie.close (tie.spec returns returns-2)

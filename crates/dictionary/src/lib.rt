@@ -1,0 +1,4 @@
+// The object dictionary: every name, and its slot.
+pub mod names;
+mod objects;
+pub mod types;

@@ -1,0 +1,4 @@
+pub mod ClassLaws
+pub mod JudgeLaws
+pub mod LinkLaws
+pub mod StartLaws

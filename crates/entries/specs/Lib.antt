@@ -1,0 +1,4 @@
+pub mod Chains
+pub mod Classes
+pub mod Judge
+pub mod Values

@@ -1,0 +1,18 @@
+// What is said of an entry and of a value that is offered to it.
+
+// The neighbour in a chain: none, or the slot that must not be passed, or not even be reached.
+pub enum Link {
+    Free,
+    Loose(u16),
+    Strict(u16),
+}
+
+// What may be said of a value that is offered to an entry.
+pub enum Verdict {
+    Good,
+    NotFinite,
+    Above,
+    Below,
+    ChainUp,
+    ChainDown,
+}
