@@ -1,0 +1,34 @@
+use mathlib.Core.Path.{_∙_, ap}
+use Rattle.sdo.specs.Answers.{stored}
+use Rattle.sdo.proofs.AnswerLaws.{read-only, too-long, too-short, fitting}
+use borrow.Author.Needs.{needs}
+use Rattle.sdo.proofs.deciding.offer.Statement.{statement}
+use Rattle.sdo.proofs.deciding.offer.Tie as tie
+
+returns : tie.Need-returns
+returns c = read-only _ _ _ _ (c .if1 .taken)
+
+size-requires : tie.Need-size-requires
+size-requires c κs = search needs
+
+returns-2 : tie.Need-returns-2
+returns-2 c = too-long _ _ _ _ (c .before .before .if1 .left) _ (c .before .size .ensures) (c .if2 .taken)
+
+returns-3 : tie.Need-returns-3
+returns-3 c = too-short _ _ _ _ (c .before .before .before .if1 .left) _ (c .before .before .size .ensures) (c .if3 .taken)
+
+judge-requires : tie.Need-judge-requires
+judge-requires c κs = search needs
+
+store-requires : tie.Need-store-requires
+store-requires c κs = search needs
+
+returns-4 : tie.Need-returns-4
+returns-4 c =
+    let at = c .before in
+    c .store .ensures ∙ ap (stored _ _) (at .judge .ensures) ∙ fitting _ _ _ _ (at .before .before .before .before .if1 .left) _ (at .before .before .before .size .ensures) (at .before .if3 .left) (at .before .before .if2 .left)
+
+pub offer-spec : {M : Type 1} → statement M
+offer-spec =
+    tie.close
+    (tie.spec returns size-requires returns-2 returns-3 judge-requires store-requires returns-4)

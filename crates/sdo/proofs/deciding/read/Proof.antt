@@ -1,0 +1,57 @@
+use Rattle.sdo.specs.Answers.{reading}
+use borrow.Author.Needs.{needs}
+use Rattle.sdo.proofs.deciding.read.Statement.{statement}
+use Rattle.sdo.proofs.deciding.read.Tie as tie
+
+enum-told : tie.Need-enum-told
+enum-told c = search needs
+
+enum-told-2 : tie.Need-enum-told-2
+enum-told-2 c = search needs
+
+enum-known-found : tie.Need-enum-known-found
+enum-known-found c = search needs
+
+cast-t8 : tie.Need-cast-t8
+cast-t8 c = search needs
+
+enum-known-found-2 : tie.Need-enum-known-found-2
+enum-known-found-2 c = search needs
+
+fetch-requires : tie.Need-fetch-requires
+fetch-requires c κs = search needs
+
+size-requires : tie.Need-size-requires
+size-requires c κs = search needs
+
+returns : tie.Need-returns
+unfolding reading
+returns c = rw (c .enum-told .given .1)
+
+returns-2 : tie.Need-returns-2
+unfolding reading
+returns-2 c = rw (c .enum-told2 .given .1)
+
+returns-3 : tie.Need-returns-3
+unfolding reading
+returns-3 c = rw (c .before .found .given .1)
+
+returns-4 : tie.Need-returns-4
+unfolding reading
+returns-4 c = rw (c .before .before .before .found2 .given .1, c .before .fetch .ensures, c .size .ensures)
+
+pub read-spec : {M : Type 1} → statement M
+read-spec =
+    tie.close
+    (tie.spec
+    enum-told
+    enum-told-2
+    enum-known-found
+    cast-t8
+    enum-known-found-2
+    fetch-requires
+    size-requires
+    returns
+    returns-2
+    returns-3
+    returns-4)

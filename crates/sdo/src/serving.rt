@@ -1,0 +1,103 @@
+// Serving a frame: the answer, the word that it writes, the reply.
+ghost use mathlib.Core.Path.{_≡_};
+ghost use mathlib.Core.List.{_++_};
+ghost use Prim.Native.Nat.{_≤_};
+ghost use lib.ListN.{length, drop};
+ghost use Rattle.sdo.specs.Frames.{code, read-command, cut, reply};
+ghost use Rattle.sdo.specs.Served.{Served, after, filled};
+use super::deciding::decide;
+use super::types::Abort;
+use super::types::Answer;
+
+fn code_of(abort: Abort) -> u32
+    ensures { λ r. ⌜ r ≡ code abort ⌝ }
+{
+    match abort {
+        Abort::Command => 0x0504_0001,
+        Abort::NoIndex => 0x0602_0000,
+        Abort::NoSub => 0x0609_0011,
+        Abort::ReadOnly => 0x0601_0002,
+        Abort::TooLong => 0x0607_0012,
+        Abort::TooShort => 0x0607_0013,
+        Abort::NotFinite => 0x0609_0030,
+        Abort::Above => 0x0609_0031,
+        Abort::Below => 0x0609_0032,
+        Abort::ChainUp => 0x0609_0031,
+        Abort::ChainDown => 0x0609_0032,
+    }
+}
+
+fn read_head(size: u8) -> u8
+    ensures { λ r. ⌜ r ≡ read-command size ⌝ }
+{
+    if size == 4 {
+        return 0x43;
+    }
+    if size == 2 {
+        return 0x4B;
+    }
+    0x4F
+}
+
+fn cut_to(word: u32, size: u8) -> u32
+    ensures { λ r. ⌜ r ≡ cut word size ⌝ }
+{
+    if size == 4 {
+        return word;
+    }
+    if size == 2 {
+        return word % 0x1_0000;
+    }
+    word % 0x100
+}
+
+// The eight bytes of a reply.
+fn respond(frame: &[u8], out: &mut [u8], head: u8, value: u32)
+    requires { ⌜ (length (now frame) ≡ 8) × (8 ≤ length (now out)) ⌝ }
+    ensures { λ _. ⌜ now (out .exit) ≡ reply (now (frame .entry)) head value ++ drop 8 (now (out .entry)) ⌝ }
+{
+    out[0] = head;
+    out[1] = frame[1];
+    out[2] = frame[2];
+    out[3] = frame[3];
+    out[4] = (value % 256) as u8;
+    out[5] = (value / 256 % 256) as u8;
+    out[6] = (value / 256 / 256 % 256) as u8;
+    out[7] = (value / 256 / 256 / 256 % 256) as u8;
+}
+
+// A word in its slot.
+fn keep(words: &mut [u32], answer: Answer)
+    ensures { λ _. ⌜ now (words .exit) ≡ after (now (words .entry)) answer ⌝ }
+{
+    let Answer::Written(slot, word) = answer else {
+        return;
+    };
+    let at = slot as usize;
+    if at < words.len() {
+        words[at] = word;
+    }
+}
+
+// The reply to an answer, if there is one.
+fn send(frame: &[u8], out: &mut [u8], answer: Answer)
+    requires { ⌜ ((answer ≡ Answer.Silent → ⊥) → (length (now frame) ≡ 8) × (8 ≤ length (now out))) ⌝ }
+    ensures { λ _. ⌜ now (out .exit) ≡ filled (now (out .entry)) (now (frame .entry)) answer ⌝ }
+{
+    match answer {
+        Answer::Silent => {}
+        Answer::Aborted(abort) => respond(frame, out, 0x80, code_of(abort)),
+        Answer::Value(word, size) => respond(frame, out, read_head(size), cut_to(word, size)),
+        Answer::Written(_, _) => respond(frame, out, 0x60, 0),
+    }
+}
+
+// Any words, any frame, any reply buffer.
+pub fn serve(words: &mut [u32; 652], frame: &[u8], reply: &mut [u8]) -> Answer
+    ensures { λ r. ⌜ Served (now (words .entry)) (now (frame .entry)) (now (reply .entry)) (now (words .exit)) (now (reply .exit)) r ⌝ }
+{
+    let answer = decide(words, frame, reply.len());
+    keep(words, answer);
+    send(frame, reply, answer);
+    answer
+}
