@@ -1,0 +1,4 @@
+pub mod LogicLaws
+pub mod MathExample
+pub mod MathLaws
+pub mod TableLaws

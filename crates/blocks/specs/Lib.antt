@@ -1,0 +1,4 @@
+pub mod Fold
+pub mod Logic
+pub mod Math
+pub mod Table

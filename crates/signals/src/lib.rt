@@ -1,0 +1,3 @@
+// Signals: what passes between the blocks of a tick, and how a block reads one.
+pub mod reading;
+pub mod signal;

@@ -1,0 +1,12 @@
+// What passes between all blocks: "a whole number, a REAL32, an error or not available".
+pub enum Signal {
+    Whole(i16),
+    Real(f32),
+    Error,
+    Absent,
+}
+
+// A signal as an array holds it.
+pub struct Held {
+    pub signal: Signal,
+}
