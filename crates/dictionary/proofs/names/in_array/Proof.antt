@@ -1,6 +1,8 @@
+-- `dictionary::names::in_array` meets its contract: the short account of an index gives what the index with its sub names (`NameLaws`).
+-- Assumes nothing.
 use native.Mathlib.Omega.{arith}
-use Rattle.dictionary.proofs.NameLaws.{array-count, array-value, array-none}
 use borrow.Author.Needs.{needs}
+use Rattle.dictionary.proofs.NameLaws.{array-count, array-value, array-none}
 use Rattle.dictionary.proofs.names.in_array.Statement.{statement}
 use Rattle.dictionary.proofs.names.in_array.Tie as tie
 

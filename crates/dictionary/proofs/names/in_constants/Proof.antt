@@ -1,10 +1,12 @@
-use Rattle.numbers.proofs.Tests.{tests}
-use Rattle.numbers.specs.Choice.{first}
+-- `dictionary::names::in_constants` meets its contract: the short account of an index gives what the index with its sub names (`NameLaws`).
+-- Assumes nothing.
+use native.Mathlib.Omega.{arith}
+use borrow.Author.Needs.{needs}
+use Rattle.dictionary.proofs.NameLaws.{constants-fixed, constants-value, constants-none}
 use Rattle.dictionary.specs.Names.{named, largest, at-sub}
 use Rattle.dictionary.specs.Objects.{meant}
-use native.Mathlib.Omega.{arith}
-use Rattle.dictionary.proofs.NameLaws.{constants-fixed, constants-value, constants-none}
-use borrow.Author.Needs.{needs}
+use Rattle.numbers.proofs.Tests.{tests}
+use Rattle.numbers.specs.Choice.{first}
 use Rattle.dictionary.proofs.names.in_constants.Statement.{statement}
 use Rattle.dictionary.proofs.names.in_constants.Tie as tie
 

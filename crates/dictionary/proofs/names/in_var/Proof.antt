@@ -1,3 +1,5 @@
+-- `dictionary::names::in_var` meets its contract: the short account of an index gives what the index with its sub names (`NameLaws`).
+-- Assumes nothing.
 use Rattle.dictionary.proofs.NameLaws.{var-value, var-none}
 use Rattle.dictionary.proofs.names.in_var.Statement.{statement}
 use Rattle.dictionary.proofs.names.in_var.Tie as tie

@@ -1,8 +1,10 @@
+-- `dictionary::objects::constants` meets its contract: each return is what the rule by digits has for the index (`Families`).
+-- Assumes nothing.
+use native.Mathlib.Omega.{arith}
+use lib.Dec.{lit<}
+use Rattle.dictionary.proofs.Families.{rows-by-digits, by-digits, from-5000, constants}
 use Rattle.numbers.proofs.Tests.{tests}
 use Rattle.numbers.specs.Choice.{first}
-use lib.Dec.{lit<}
-use native.Mathlib.Omega.{arith}
-use Rattle.dictionary.proofs.Families.{rows-by-digits, by-digits, from-5000, constants}
 use Rattle.dictionary.proofs.objects.constants.Statement.{statement}
 use Rattle.dictionary.proofs.objects.constants.Tie as tie
 

@@ -1,6 +1,8 @@
+-- `dictionary::objects::fours` meets its contract: each return is what the rule by digits has for the index (`Families`).
+-- Assumes nothing.
+use borrow.Author.Needs.{needs}
 use Rattle.numbers.proofs.Tests.{tests}
 use Rattle.numbers.specs.Choice.{first}
-use borrow.Author.Needs.{needs}
 use Rattle.dictionary.proofs.objects.fours.Statement.{statement}
 use Rattle.dictionary.proofs.objects.fours.Tie as tie
 

@@ -1,8 +1,10 @@
+-- `dictionary::objects::from_5000` meets its contract: each return is what the rule by digits has for the index (`Families`).
+-- Assumes nothing.
+use native.Mathlib.Omega.{arith}
+use borrow.Author.Needs.{needs}
+use Rattle.dictionary.proofs.Families.{from-5000, in-from-5000, moved}
 use Rattle.numbers.proofs.Tests.{tests}
 use Rattle.numbers.specs.Choice.{first}
-use native.Mathlib.Omega.{arith}
-use Rattle.dictionary.proofs.Families.{from-5000, in-from-5000, moved}
-use borrow.Author.Needs.{needs}
 use Rattle.dictionary.proofs.objects.from_5000.Statement.{statement}
 use Rattle.dictionary.proofs.objects.from_5000.Tie as tie
 

@@ -1,8 +1,10 @@
+-- `dictionary::objects::input_digits` meets its contract: each return is what the rule by digits has for the index (`Families`).
+-- Assumes nothing.
+use native.Mathlib.Omega.{arith}
+use lib.Dec.{lit<}
+use Rattle.dictionary.proofs.Families.{rows-by-digits, by-digits, from-5000, input-digits}
 use Rattle.numbers.proofs.Tests.{tests}
 use Rattle.numbers.specs.Choice.{first}
-use lib.Dec.{lit<}
-use native.Mathlib.Omega.{arith}
-use Rattle.dictionary.proofs.Families.{rows-by-digits, by-digits, from-5000, input-digits}
 use Rattle.dictionary.proofs.objects.input_digits.Statement.{statement}
 use Rattle.dictionary.proofs.objects.input_digits.Tie as tie
 

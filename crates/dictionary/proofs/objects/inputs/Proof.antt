@@ -1,9 +1,11 @@
+-- `dictionary::objects::inputs` meets its contract: each return is what the rule by digits has for the index (`Families`).
+-- Assumes nothing.
+use native.Mathlib.Omega.{arith}
+use lib.Dec.{lit<}
+use borrow.Author.Needs.{needs}
+use Rattle.dictionary.proofs.Families.{rows-by-digits, by-digits, from-5000, inputs}
 use Rattle.numbers.proofs.Tests.{tests}
 use Rattle.numbers.specs.Choice.{first}
-use lib.Dec.{lit<}
-use native.Mathlib.Omega.{arith}
-use Rattle.dictionary.proofs.Families.{rows-by-digits, by-digits, from-5000, inputs}
-use borrow.Author.Needs.{needs}
 use Rattle.dictionary.proofs.objects.inputs.Statement.{statement}
 use Rattle.dictionary.proofs.objects.inputs.Tie as tie
 

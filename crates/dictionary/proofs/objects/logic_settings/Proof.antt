@@ -1,8 +1,10 @@
+-- `dictionary::objects::logic_settings` meets its contract: each return is what the rule by digits has for the index (`Families`).
+-- Assumes nothing.
+use native.Mathlib.Omega.{arith}
+use borrow.Author.Needs.{needs}
+use Rattle.dictionary.proofs.Families.{logic-settings, in-logic-settings}
 use Rattle.numbers.proofs.Tests.{tests}
 use Rattle.numbers.specs.Choice.{first}
-use native.Mathlib.Omega.{arith}
-use Rattle.dictionary.proofs.Families.{logic-settings, in-logic-settings}
-use borrow.Author.Needs.{needs}
 use Rattle.dictionary.proofs.objects.logic_settings.Statement.{statement}
 use Rattle.dictionary.proofs.objects.logic_settings.Tie as tie
 

@@ -1,8 +1,10 @@
+-- `dictionary::objects::math_blocks` meets its contract: each return is what the rule by digits has for the index (`Families`).
+-- Assumes nothing.
+use native.Mathlib.Omega.{arith}
+use lib.Dec.{lit<}
+use Rattle.dictionary.proofs.Families.{rows-by-digits, by-digits, below-5000, math-blocks}
 use Rattle.numbers.proofs.Tests.{tests}
 use Rattle.numbers.specs.Choice.{first}
-use lib.Dec.{lit<}
-use native.Mathlib.Omega.{arith}
-use Rattle.dictionary.proofs.Families.{rows-by-digits, by-digits, below-5000, math-blocks}
 use Rattle.dictionary.proofs.objects.math_blocks.Statement.{statement}
 use Rattle.dictionary.proofs.objects.math_blocks.Tie as tie
 

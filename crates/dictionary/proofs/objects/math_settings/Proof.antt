@@ -1,8 +1,10 @@
+-- `dictionary::objects::math_settings` meets its contract: each return is what the rule by digits has for the index (`Families`).
+-- Assumes nothing.
+use native.Mathlib.Omega.{arith}
+use borrow.Author.Needs.{needs}
+use Rattle.dictionary.proofs.Families.{math-settings, in-math-settings}
 use Rattle.numbers.proofs.Tests.{tests}
 use Rattle.numbers.specs.Choice.{first}
-use native.Mathlib.Omega.{arith}
-use Rattle.dictionary.proofs.Families.{math-settings, in-math-settings}
-use borrow.Author.Needs.{needs}
 use Rattle.dictionary.proofs.objects.math_settings.Statement.{statement}
 use Rattle.dictionary.proofs.objects.math_settings.Tie as tie
 

@@ -1,9 +1,11 @@
+-- `dictionary::objects::outputs` meets its contract: each return is what the rule by digits has for the index (`Families`).
+-- Assumes nothing.
+use native.Mathlib.Omega.{arith}
+use lib.Dec.{lit<}
+use borrow.Author.Needs.{needs}
+use Rattle.dictionary.proofs.Families.{rows-by-digits, by-digits, from-5000, outputs}
 use Rattle.numbers.proofs.Tests.{tests}
 use Rattle.numbers.specs.Choice.{first}
-use lib.Dec.{lit<}
-use native.Mathlib.Omega.{arith}
-use Rattle.dictionary.proofs.Families.{rows-by-digits, by-digits, from-5000, outputs}
-use borrow.Author.Needs.{needs}
 use Rattle.dictionary.proofs.objects.outputs.Statement.{statement}
 use Rattle.dictionary.proofs.objects.outputs.Tie as tie
 

@@ -1,9 +1,11 @@
+-- `dictionary::objects::rows_of` meets its contract: each return is what the rule by digits has for the index (`Families`).
+-- Assumes nothing.
 use Prim.Native.Nat.{_/_, _%_}
+use native.Mathlib.Omega.{arith}
+use borrow.Author.Needs.{needs}
+use Rattle.dictionary.proofs.Families.{by-digits, rows-by-digits, moved}
 use Rattle.numbers.proofs.Tests.{tests}
 use Rattle.numbers.specs.Choice.{first}
-use native.Mathlib.Omega.{arith}
-use Rattle.dictionary.proofs.Families.{by-digits, rows-by-digits, moved}
-use borrow.Author.Needs.{needs}
 use Rattle.dictionary.proofs.objects.rows_of.Statement.{statement}
 use Rattle.dictionary.proofs.objects.rows_of.Tie as tie
 

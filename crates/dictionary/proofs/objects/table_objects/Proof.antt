@@ -1,9 +1,11 @@
+-- `dictionary::objects::table_objects` meets its contract: each return is what the rule by digits has for the index (`Families`).
+-- Assumes nothing.
+use native.Mathlib.Omega.{arith}
+use lib.Dec.{lit<}
+use borrow.Author.Needs.{needs}
+use Rattle.dictionary.proofs.Families.{rows-by-digits, by-digits, table-objects}
 use Rattle.numbers.proofs.Tests.{tests}
 use Rattle.numbers.specs.Choice.{first}
-use lib.Dec.{lit<}
-use native.Mathlib.Omega.{arith}
-use Rattle.dictionary.proofs.Families.{rows-by-digits, by-digits, table-objects}
-use borrow.Author.Needs.{needs}
 use Rattle.dictionary.proofs.objects.table_objects.Statement.{statement}
 use Rattle.dictionary.proofs.objects.table_objects.Tie as tie
 

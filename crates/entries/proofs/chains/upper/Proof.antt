@@ -1,7 +1,9 @@
+-- `entries::chains::upper` meets its contract: each return is the neighbour that the slot's place tells (`LinkLaws`).
+-- Assumes nothing.
+use borrow.Author.Needs.{needs}
 use Rattle.entries.proofs.LinkLaws.{upper-by-slot, of-upper}
 use Rattle.numbers.proofs.Tests.{tests}
 use Rattle.numbers.specs.Choice.{first}
-use borrow.Author.Needs.{needs}
 use Rattle.entries.proofs.chains.upper.Statement.{statement}
 use Rattle.entries.proofs.chains.upper.Tie as tie
 

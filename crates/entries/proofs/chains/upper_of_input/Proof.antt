@@ -1,8 +1,10 @@
+-- `entries::chains::upper_of_input` meets its contract: each return is the neighbour that the slot's place tells (`LinkLaws`).
+-- Assumes nothing.
 use native.Mathlib.Omega.{arith}
+use borrow.Author.Needs.{needs}
 use Rattle.entries.proofs.LinkLaws.{upper-of-input, upper-of-input-law}
 use Rattle.numbers.proofs.Tests.{tests}
 use Rattle.numbers.specs.Choice.{first}
-use borrow.Author.Needs.{needs}
 use Rattle.entries.proofs.chains.upper_of_input.Statement.{statement}
 use Rattle.entries.proofs.chains.upper_of_input.Tie as tie
 

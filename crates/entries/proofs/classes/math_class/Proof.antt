@@ -1,8 +1,10 @@
+-- `entries::classes::math_class` meets its contract: each return is the class that the slot's place tells (`ClassLaws`).
+-- Assumes nothing.
 use native.Mathlib.Omega.{arith}
+use borrow.Author.Needs.{needs}
 use Rattle.entries.proofs.ClassLaws.{math-class, in-math}
 use Rattle.numbers.proofs.Tests.{tests}
 use Rattle.numbers.specs.Choice.{first}
-use borrow.Author.Needs.{needs}
 use Rattle.entries.proofs.classes.math_class.Statement.{statement}
 use Rattle.entries.proofs.classes.math_class.Tie as tie
 

@@ -1,3 +1,5 @@
+-- `entries::classes::other_class` meets its contract: each return is the class that the slot's place tells (`ClassLaws`).
+-- Assumes nothing.
 use native.Mathlib.Omega.{arith}
 use Rattle.entries.proofs.ClassLaws.{other-class, in-other}
 use Rattle.numbers.proofs.Tests.{tests}

@@ -1,3 +1,5 @@
+-- `entries::classes::source_class` meets its contract: each return is the class that the slot's place tells (`ClassLaws`).
+-- Assumes nothing.
 use native.Mathlib.Omega.{arith}
 use Rattle.entries.proofs.ClassLaws.{source-class, in-source}
 use Rattle.numbers.proofs.Tests.{tests}

@@ -1,5 +1,7 @@
-use Rattle.entries.specs.Judge.{finite}
+-- `entries::judging::is_finite` meets its contract: what the parts find joins to the judgement (`JudgeLaws`).
+-- Assumes nothing.
 use borrow.Author.Needs.{needs}
+use Rattle.entries.specs.Judge.{finite}
 use Rattle.entries.proofs.judging.is_finite.Statement.{statement}
 use Rattle.entries.proofs.judging.is_finite.Tie as tie
 

@@ -1,8 +1,10 @@
+-- `entries::judging::judge` meets its contract: what the parts find joins to the judgement (`JudgeLaws`).
+-- Assumes nothing.
 use mathlib.Core.Path.{_∙_}
+use borrow.Author.Needs.{needs}
+use Rattle.entries.proofs.JudgeLaws.{by-own}
 use Rattle.entries.specs.Judge.{before}
 use Rattle.entries.specs.declared.types.Verdict.the-variants.{Good, NotFinite, Above, Below, ChainUp, ChainDown}
-use Rattle.entries.proofs.JudgeLaws.{by-own}
-use borrow.Author.Needs.{needs}
 use Rattle.entries.proofs.judging.judge.Statement.{statement}
 use Rattle.entries.proofs.judging.judge.Tie as tie
 

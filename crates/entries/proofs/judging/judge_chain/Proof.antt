@@ -1,6 +1,8 @@
+-- `entries::judging::judge_chain` meets its contract: what the parts find joins to the judgement (`JudgeLaws`).
+-- Assumes nothing.
+use borrow.Author.Needs.{needs}
 use borrow.Author.Needs.{sfits-of}
 use Rattle.entries.proofs.JudgeLaws.{broken-up, broken-down, unbroken}
-use borrow.Author.Needs.{needs}
 use Rattle.entries.proofs.judging.judge_chain.Statement.{statement}
 use Rattle.entries.proofs.judging.judge_chain.Tie as tie
 

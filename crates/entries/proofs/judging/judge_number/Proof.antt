@@ -1,7 +1,9 @@
+-- `entries::judging::judge_number` meets its contract: what the parts find joins to the judgement (`JudgeLaws`).
+-- Assumes nothing.
 use mir.Syntax.{w32}
+use Rattle.entries.specs.Judge.{within}
 use Rattle.numbers.proofs.Tests.{tests, lt-yes, lt-no}
 use Rattle.numbers.specs.Choice.{first}
-use Rattle.entries.specs.Judge.{within}
 use Rattle.entries.proofs.judging.judge_number.Statement.{statement}
 use Rattle.entries.proofs.judging.judge_number.Tie as tie
 

@@ -1,7 +1,9 @@
-use borrow.Author.Needs.{sfits-of}
+-- `entries::judging::judge_range` meets its contract: what the parts find joins to the judgement (`JudgeLaws`).
+-- Assumes nothing.
 use mathlib.Core.Path.{_∙_}
-use Rattle.entries.proofs.JudgeLaws.{is-number, is-no-number}
 use borrow.Author.Needs.{needs}
+use borrow.Author.Needs.{sfits-of}
+use Rattle.entries.proofs.JudgeLaws.{is-number, is-no-number}
 use Rattle.entries.proofs.judging.judge_range.Statement.{statement}
 use Rattle.entries.proofs.judging.judge_range.Tie as tie
 

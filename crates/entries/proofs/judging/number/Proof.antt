@@ -1,11 +1,13 @@
+-- `entries::judging::number` meets its contract: what the parts find joins to the judgement (`JudgeLaws`).
+-- Assumes nothing.
 use native.Mathlib.Nat.{lt-trans}
 use native.Mathlib.Omega.{arith}
 use lib.Dec.{lit<}
-use mir.Syntax.{w16, w32}
 use mir.Facts.{toZ-pos, toZ-ofZ}
+use mir.Syntax.{w16, w32}
+use borrow.Author.Needs.{needs}
 use borrow.Author.Needs.{sfits-of}
 use Rattle.entries.specs.Judge.{number-of}
-use borrow.Author.Needs.{needs}
 use Rattle.entries.proofs.judging.number.Statement.{statement}
 use Rattle.entries.proofs.judging.number.Tie as tie
 

@@ -1,7 +1,9 @@
-use borrow.Author.Needs.{sfits-of}
-use Rattle.entries.specs.Judge.{past-upper}
-use Rattle.entries.proofs.JudgeLaws.{up-loose, up-strict}
+-- `entries::judging::over` meets its contract: what the parts find joins to the judgement (`JudgeLaws`).
+-- Assumes nothing.
 use borrow.Author.Needs.{needs}
+use borrow.Author.Needs.{sfits-of}
+use Rattle.entries.proofs.JudgeLaws.{up-loose, up-strict}
+use Rattle.entries.specs.Judge.{past-upper}
 use Rattle.entries.proofs.judging.over.Statement.{statement}
 use Rattle.entries.proofs.judging.over.Tie as tie
 

@@ -1,7 +1,9 @@
-use borrow.Author.Needs.{sfits-of}
-use Rattle.entries.specs.Judge.{past-lower}
-use Rattle.entries.proofs.JudgeLaws.{down-loose, down-strict}
+-- `entries::judging::under` meets its contract: what the parts find joins to the judgement (`JudgeLaws`).
+-- Assumes nothing.
 use borrow.Author.Needs.{needs}
+use borrow.Author.Needs.{sfits-of}
+use Rattle.entries.proofs.JudgeLaws.{down-loose, down-strict}
+use Rattle.entries.specs.Judge.{past-lower}
 use Rattle.entries.proofs.judging.under.Statement.{statement}
 use Rattle.entries.proofs.judging.under.Tie as tie
 

@@ -1,6 +1,8 @@
+-- `entries::ranges::limits` meets its contract: a class has the range that its definition gives it.
+-- Assumes nothing.
 use mathlib.Core.Path.{ap, sym}
-use Rattle.entries.specs.Classes.{ranged}
 use borrow.Author.Needs.{needs}
+use Rattle.entries.specs.Classes.{ranged}
 use Rattle.entries.proofs.ranges.limits.Statement.{statement}
 use Rattle.entries.proofs.ranges.limits.Tie as tie
 

@@ -1,3 +1,5 @@
+-- `entries::ranges::range` meets its contract: a class has the range that its definition gives it.
+-- Assumes nothing.
 use mathlib.Core.Path.{_∙_}
 use borrow.Author.Needs.{needs}
 use Rattle.entries.proofs.ranges.range.Statement.{statement}

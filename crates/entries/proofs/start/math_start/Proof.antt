@@ -1,8 +1,10 @@
+-- `entries::start::math_start` meets its contract: each return is the start word that the slot's place tells (`StartLaws`).
+-- Assumes nothing.
 use native.Mathlib.Omega.{arith}
+use borrow.Author.Needs.{needs}
 use Rattle.entries.proofs.StartLaws.{math-start, in-math}
 use Rattle.numbers.proofs.Tests.{tests}
 use Rattle.numbers.specs.Choice.{first}
-use borrow.Author.Needs.{needs}
 use Rattle.entries.proofs.start.math_start.Statement.{statement}
 use Rattle.entries.proofs.start.math_start.Tie as tie
 

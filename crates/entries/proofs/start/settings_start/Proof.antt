@@ -1,3 +1,5 @@
+-- `entries::start::settings_start` meets its contract: each return is the start word that the slot's place tells (`StartLaws`).
+-- Assumes nothing.
 use native.Mathlib.Omega.{arith}
 use Rattle.entries.proofs.StartLaws.{settings-start, in-settings}
 use Rattle.numbers.proofs.Tests.{tests}

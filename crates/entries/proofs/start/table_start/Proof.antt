@@ -1,8 +1,10 @@
+-- `entries::start::table_start` meets its contract: each return is the start word that the slot's place tells (`StartLaws`).
+-- Assumes nothing.
 use native.Mathlib.Omega.{arith}
+use borrow.Author.Needs.{needs}
 use Rattle.entries.proofs.StartLaws.{table-start, in-table}
 use Rattle.numbers.proofs.Tests.{tests}
 use Rattle.numbers.specs.Choice.{first}
-use borrow.Author.Needs.{needs}
 use Rattle.entries.proofs.start.table_start.Statement.{statement}
 use Rattle.entries.proofs.start.table_start.Tie as tie
 

@@ -1,3 +1,5 @@
+-- `entries::words::fetch` meets its contract: past the end a list reads its default.
+-- Assumes nothing.
 use mathlib.Core.Path.{sym}
 use lib.ListN.{List·getD-eq-default}
 use borrow.Author.Needs.{needs}

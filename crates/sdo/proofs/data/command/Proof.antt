@@ -1,3 +1,5 @@
+-- `sdo::data::command` meets its contract: the bytes stand where the definition reads them (`FrameLaws`).
+-- Assumes nothing.
 use Rattle.numbers.proofs.Tests.{tests}
 use Rattle.numbers.specs.Choice.{first}
 use Rattle.sdo.specs.Frames.{command-of}

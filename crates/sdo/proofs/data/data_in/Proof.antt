@@ -1,7 +1,9 @@
+-- `sdo::data::data_in` meets its contract: the bytes stand where the definition reads them (`FrameLaws`).
+-- Assumes nothing.
 use mathlib.Core.Path.{_∙_}
 use native.Mathlib.Omega.{arith}
-use Rattle.sdo.proofs.FrameLaws.{data-1, data-2, data-3, data-4}
 use borrow.Author.Needs.{needs}
+use Rattle.sdo.proofs.FrameLaws.{data-1, data-2, data-3, data-4}
 use Rattle.sdo.proofs.data.data_in.Statement.{statement}
 use Rattle.sdo.proofs.data.data_in.Tie as tie
 

@@ -1,5 +1,7 @@
-use Rattle.sdo.specs.Frames.{index-in}
+-- `sdo::data::index_in` meets its contract: the bytes stand where the definition reads them (`FrameLaws`).
+-- Assumes nothing.
 use borrow.Author.Needs.{needs}
+use Rattle.sdo.specs.Frames.{index-in}
 use Rattle.sdo.proofs.data.index_in.Statement.{statement}
 use Rattle.sdo.proofs.data.index_in.Tie as tie
 

@@ -1,6 +1,8 @@
+-- `sdo::data::sub_in` meets its contract: the bytes stand where the definition reads them (`FrameLaws`).
+-- Assumes nothing.
 use mathlib.Core.Path.{refl}
-use Rattle.sdo.specs.Frames.{sub-in}
 use borrow.Author.Needs.{needs}
+use Rattle.sdo.specs.Frames.{sub-in}
 use Rattle.sdo.proofs.data.sub_in.Statement.{statement}
 use Rattle.sdo.proofs.data.sub_in.Tie as tie
 

@@ -1,6 +1,8 @@
+-- `sdo::deciding::decide` meets its contract: each return is the row that its tests choose (`AnswerLaws`).
+-- Assumes nothing.
 use mathlib.Core.Path.{_∙_}
-use Rattle.sdo.proofs.AnswerLaws.{not-eight, no-room, an-abort, spoken}
 use borrow.Author.Needs.{needs}
+use Rattle.sdo.proofs.AnswerLaws.{not-eight, no-room, an-abort, spoken}
 use Rattle.sdo.proofs.deciding.decide.Statement.{statement}
 use Rattle.sdo.proofs.deciding.decide.Tie as tie
 

@@ -1,7 +1,9 @@
+-- `sdo::deciding::obey` meets its contract: each return is the row that its tests choose (`AnswerLaws`).
+-- Assumes nothing.
 use mathlib.Core.Path.{_∙_}
 use native.Mathlib.Omega.{arith}
-use Rattle.sdo.proofs.AnswerLaws.{write-sizes, other-command, a-read, a-write}
 use borrow.Author.Needs.{needs}
+use Rattle.sdo.proofs.AnswerLaws.{write-sizes, other-command, a-read, a-write}
 use Rattle.sdo.proofs.deciding.obey.Statement.{statement}
 use Rattle.sdo.proofs.deciding.obey.Tie as tie
 

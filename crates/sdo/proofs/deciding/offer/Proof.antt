@@ -1,7 +1,9 @@
+-- `sdo::deciding::offer` meets its contract: each return is the row that its tests choose (`AnswerLaws`).
+-- Assumes nothing.
 use mathlib.Core.Path.{_∙_, ap}
-use Rattle.sdo.specs.Answers.{stored}
-use Rattle.sdo.proofs.AnswerLaws.{read-only, too-long, too-short, fitting}
 use borrow.Author.Needs.{needs}
+use Rattle.sdo.proofs.AnswerLaws.{read-only, too-long, too-short, fitting}
+use Rattle.sdo.specs.Answers.{stored}
 use Rattle.sdo.proofs.deciding.offer.Statement.{statement}
 use Rattle.sdo.proofs.deciding.offer.Tie as tie
 

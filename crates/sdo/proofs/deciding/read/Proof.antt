@@ -1,5 +1,7 @@
-use Rattle.sdo.specs.Answers.{reading}
+-- `sdo::deciding::read` meets its contract: each return is the row that its tests choose (`AnswerLaws`).
+-- Assumes nothing.
 use borrow.Author.Needs.{needs}
+use Rattle.sdo.specs.Answers.{reading}
 use Rattle.sdo.proofs.deciding.read.Statement.{statement}
 use Rattle.sdo.proofs.deciding.read.Tie as tie
 

@@ -1,5 +1,7 @@
-use Rattle.sdo.specs.Answers.{refused}
+-- `sdo::deciding::refuse` meets its contract: each return is the row that its tests choose (`AnswerLaws`).
+-- Assumes nothing.
 use borrow.Author.Needs.{needs}
+use Rattle.sdo.specs.Answers.{refused}
 use Rattle.sdo.proofs.deciding.refuse.Statement.{statement}
 use Rattle.sdo.proofs.deciding.refuse.Tie as tie
 

@@ -1,8 +1,10 @@
+-- `sdo::deciding::size` meets its contract: each return is the row that its tests choose (`AnswerLaws`).
+-- Assumes nothing.
 use mathlib.Core.Path.{_∙_, ap}
+use borrow.Author.Needs.{needs}
 use Rattle.dictionary.specs.Rows.{width}
 use Rattle.dictionary.specs.declared.types.Range.{Range}
 use Rattle.sdo.specs.Answers.{size-of}
-use borrow.Author.Needs.{needs}
 use Rattle.sdo.proofs.deciding.size.Statement.{statement}
 use Rattle.sdo.proofs.deciding.size.Tie as tie
 

@@ -1,5 +1,7 @@
-use Rattle.sdo.specs.Answers.{stored}
+-- `sdo::deciding::store` meets its contract: each return is the row that its tests choose (`AnswerLaws`).
+-- Assumes nothing.
 use borrow.Author.Needs.{needs}
+use Rattle.sdo.specs.Answers.{stored}
 use Rattle.sdo.proofs.deciding.store.Statement.{statement}
 use Rattle.sdo.proofs.deciding.store.Tie as tie
 

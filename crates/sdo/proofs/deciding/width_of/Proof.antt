@@ -1,5 +1,7 @@
-use Rattle.dictionary.specs.Rows.{width}
+-- `sdo::deciding::width_of` meets its contract: each return is the row that its tests choose (`AnswerLaws`).
+-- Assumes nothing.
 use borrow.Author.Needs.{needs}
+use Rattle.dictionary.specs.Rows.{width}
 use Rattle.sdo.proofs.deciding.width_of.Statement.{statement}
 use Rattle.sdo.proofs.deciding.width_of.Tie as tie
 

@@ -1,7 +1,9 @@
+-- `sdo::deciding::write` meets its contract: each return is the row that its tests choose (`AnswerLaws`).
+-- Assumes nothing.
 use mathlib.Core.Path.{_∙_}
-use Rattle.sdo.specs.Answers.{writing}
-use Rattle.sdo.proofs.AnswerLaws.{no-entry}
 use borrow.Author.Needs.{needs}
+use Rattle.sdo.proofs.AnswerLaws.{no-entry}
+use Rattle.sdo.specs.Answers.{writing}
 use Rattle.sdo.proofs.deciding.write.Statement.{statement}
 use Rattle.sdo.proofs.deciding.write.Tie as tie
 

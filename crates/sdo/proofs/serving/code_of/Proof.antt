@@ -1,5 +1,7 @@
-use Rattle.sdo.specs.Frames.{code}
+-- `sdo::serving::code_of` meets its contract: the stores come to the list that the definition gives (`FrameLaws`).
+-- Assumes nothing.
 use borrow.Author.Needs.{needs}
+use Rattle.sdo.specs.Frames.{code}
 use Rattle.sdo.proofs.serving.code_of.Statement.{statement}
 use Rattle.sdo.proofs.serving.code_of.Tie as tie
 

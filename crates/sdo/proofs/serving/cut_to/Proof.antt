@@ -1,3 +1,5 @@
+-- `sdo::serving::cut_to` meets its contract: the stores come to the list that the definition gives (`FrameLaws`).
+-- Assumes nothing.
 use Rattle.numbers.proofs.Tests.{tests}
 use Rattle.numbers.specs.Choice.{first}
 use Rattle.sdo.specs.Frames.{cut}

@@ -1,8 +1,10 @@
+-- `sdo::serving::keep` meets its contract: the stores come to the list that the definition gives (`FrameLaws`).
+-- Assumes nothing.
 use mathlib.Core.Path.{sym}
-use Rattle.sdo.specs.Served.{after}
+use borrow.Author.Needs.{needs}
 use Rattle.sdo.proofs.AnswerLaws.{unwritten}
 use Rattle.sdo.proofs.FrameLaws.{set-past}
-use borrow.Author.Needs.{needs}
+use Rattle.sdo.specs.Served.{after}
 use Rattle.sdo.proofs.serving.keep.Statement.{statement}
 use Rattle.sdo.proofs.serving.keep.Tie as tie
 

@@ -1,7 +1,9 @@
-use mathlib.Core.Path.{_∙_}
+-- `sdo::serving::send` meets its contract: the stores come to the list that the definition gives (`FrameLaws`).
+-- Assumes nothing.
 use mathlib.Core.List.{[]}
-use Rattle.sdo.proofs.FrameLaws.{sent-abort, sent-value, sent-written, sent-nothing, abort-speaks, value-speaks, written-speaks}
+use mathlib.Core.Path.{_∙_}
 use borrow.Author.Needs.{needs}
+use Rattle.sdo.proofs.FrameLaws.{sent-abort, sent-value, sent-written, sent-nothing, abort-speaks, value-speaks, written-speaks}
 use Rattle.sdo.proofs.serving.send.Statement.{statement}
 use Rattle.sdo.proofs.serving.send.Tie as tie
 

@@ -1,5 +1,7 @@
-use Rattle.sdo.proofs.AnswerLaws.{heard}
+-- `sdo::serving::serve` meets its contract: the stores come to the list that the definition gives (`FrameLaws`).
+-- Assumes nothing.
 use borrow.Author.Needs.{needs}
+use Rattle.sdo.proofs.AnswerLaws.{heard}
 use Rattle.sdo.proofs.serving.serve.Statement.{statement}
 use Rattle.sdo.proofs.serving.serve.Tie as tie
 
