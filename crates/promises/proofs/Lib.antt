@@ -1,0 +1,10 @@
+pub mod Accepted
+pub mod Bench
+pub mod ByteLaws
+pub mod Configuration
+pub mod Judged
+pub mod Neighbours
+pub mod ReadBack
+pub mod Serving
+pub mod Start
+pub mod Writing

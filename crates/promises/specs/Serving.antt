@@ -1,0 +1,56 @@
+-- What is promised of frames.
+-- Assumes nothing.
+use Prim.Native.Nat.{ℕ, _-_, _<_}
+use mathlib.Core.Path.{_≡_}
+use mathlib.Core.List.{List, _∷_, _++_}
+use lib.ListN.{length, getD, take, drop, replicate}
+use Rattle.dictionary.specs.Names.{configured, find}
+use Rattle.dictionary.specs.declared.types.Found.the-variants.{At}
+use Rattle.entries.specs.Valid.{Valid}
+use Rattle.entries.specs.Values.{starts}
+use Rattle.sdo.specs.Answers.{answer}
+use Rattle.sdo.specs.Frames.{index-in, sub-in, name-in, command-of, read-command, reply-to}
+use Rattle.sdo.specs.Served.{Served, after}
+use Rattle.sdo.specs.declared.types.Abort.{Abort}
+use Rattle.sdo.specs.declared.types.Answer.{Answer}
+use Rattle.sdo.specs.declared.types.Answer.the-variants.{Silent, Aborted, Written}
+use Rattle.sdo.specs.declared.types.Command.the-variants.{Write}
+
+-- a frame is made of bytes
+abbrev pub Bytes : List ℕ → Type 0
+Bytes frame = (i : ℕ) → getD frame i 0 < 256
+
+-- "An abort changes no state"; where there is no reply the buffer is untouched too
+abbrev pub Untouched : Type 0
+Untouched =
+    (words frame reply words′ reply′ : List ℕ) (r : Answer) → Served words frame reply words′ reply′ r
+    → (r ≡ Silent → (words′ ≡ words) × (reply′ ≡ reply)) × ((a : Abort) → r ≡ Aborted a → words′ ≡ words)
+
+-- two answers that the contract allows are equal, with all that they leave
+abbrev pub Determined : Type 0
+Determined =
+    (words frame reply w₁ b₁ w₂ b₂ : List ℕ) (r s : Answer) → Served words frame reply w₁ b₁ r → Served words frame reply w₂ b₂ s
+    → (r ≡ s) × (w₁ ≡ w₂) × (b₁ ≡ b₂)
+
+-- an accepted write changes one slot, and a read of the same name then answers with the bytes written, zeros behind them
+abbrev pub Reads-back : Type 0
+Reads-back =
+    (words frame : List ℕ) (room slot word size : ℕ) → length words ≡ 652 → Bytes frame
+    → command-of (getD frame 0 0) ≡ Write size → answer words frame room ≡ Written slot word
+    → (query : List ℕ) → length query ≡ 8 → getD query 0 0 ≡ 0x40 → name-in query ≡ name-in frame
+    → reply-to query (answer (after words (Written slot word)) query 8)
+    ≡ read-command size ∷ name-in frame ++ take size (drop 4 frame) ++ replicate (4 - size) 0
+
+-- "Chains, true at all times": at start, and after every frame
+abbrev pub Stays-valid : Type 0
+Stays-valid =
+    Valid starts
+    × ((words frame : List ℕ) (room : ℕ) → length words ≡ 652 → Bytes frame → Valid words → Valid (after words (answer words frame room)))
+
+-- the configuration decides the answer to a configuration write, and nothing else does
+abbrev pub Decided-by-configuration : Type 0
+Decided-by-configuration =
+    (words other frame : List ℕ) (room slot size : ℕ)
+    → ((k : ℕ) → k < configured → getD words k 0 ≡ getD other k 0)
+    → command-of (getD frame 0 0) ≡ Write size → find (index-in frame) (sub-in frame) ≡ At slot → slot < configured
+    → answer words frame room ≡ answer other frame room
