@@ -5,6 +5,7 @@ pub mod Configuration
 pub mod Judged
 pub mod Neighbours
 pub mod ReadBack
+pub mod Running
 pub mod Serving
 pub mod Start
 pub mod Writing

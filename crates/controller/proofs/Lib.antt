@@ -1,0 +1,5 @@
+pub mod Choosing
+pub mod Conditions
+pub mod Phases
+pub mod Slots
+pub mod TickLaws

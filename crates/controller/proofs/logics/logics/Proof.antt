@@ -1,0 +1,124 @@
+-- The blocks before k are done: the state is theirs.
+use Rattle.controller.proofs.Phases.{more, done}
+use Rattle.controller.proofs.Slots.{logic-number, logic-value}
+use Rattle.controller.specs.Logics.{logicTold}
+use Rattle.controller.specs.Sources.{hold}
+use Rattle.controller.specs.Entry.{publish}
+use Rattle.numbers.proofs.ExactLaws.{back}
+use Rattle.controller.specs.Logics.{logicTick}
+use Rattle.controller.specs.Sources.{state, live}
+use Rattle.terminals.specs.declared.input.Memory.{Memory}
+use Rattle.controller.specs.Tick.{each}
+use native.Mathlib.Omega.{arith}
+use mathlib.Core.Path.{_≡_, refl, _∙_, ap, sym}
+use mathlib.Core.List.{List}
+use Prim.Native.Nat.{_≤_, _+_, _-_}
+use borrow.Author.Needs.{needs}
+use Rattle.controller.proofs.logics.logics.Statement.{statement}
+use Rattle.controller.proofs.logics.logics.Tie as tie
+
+abbrev Inv-loop : tie.InvT-loop
+Inv-loop words₀ signals₀ k₀ words signals k = (k ≤ 2) × ((m : List Memory) → state words (live signals m) ≡ each k logicTick (state words₀ (live signals₀ m)))
+
+abbrev μ-loop : tie.MeasureT-loop
+μ-loop words₀ signals₀ k₀ words signals k = 2 - k
+
+loop-holds : tie.Need-loop-holds Inv-loop μ-loop
+unfolding each
+loop-holds c = (omega arith, λ m. refl)
+
+add-selection-of : tie.Need-add-selection-of Inv-loop μ-loop
+add-selection-of c = search needs
+
+selection-of-requires : tie.Need-selection-of-requires Inv-loop μ-loop
+selection-of-requires c κs = search needs
+
+cast-words : tie.Need-cast-words Inv-loop μ-loop
+cast-words c = search needs
+
+add-words : tie.Need-add-words Inv-loop μ-loop
+add-words c = search needs
+
+mul-words : tie.Need-mul-words Inv-loop μ-loop
+mul-words c = search needs
+
+element-write-words : tie.Need-element-write-words Inv-loop μ-loop
+element-write-words c = search needs
+
+number-requires : tie.Need-number-requires Inv-loop μ-loop
+number-requires c κs = search needs
+
+pattern-requires : tie.Need-pattern-requires Inv-loop μ-loop
+pattern-requires c κs = search needs
+
+add-words-2 : tie.Need-add-words-2 Inv-loop μ-loop
+add-words-2 c = search needs
+
+mul-words-2 : tie.Need-mul-words-2 Inv-loop μ-loop
+mul-words-2 c = search needs
+
+element-write-words-2 : tie.Need-element-write-words-2 Inv-loop μ-loop
+element-write-words-2 c = search needs
+
+add-signals : tie.Need-add-signals Inv-loop μ-loop
+add-signals c = search needs
+
+mul-signals : tie.Need-mul-signals Inv-loop μ-loop
+mul-signals c = search needs
+
+array-set-from-signals : tie.Need-array-set-from-signals Inv-loop μ-loop
+array-set-from-signals c = search needs
+
+add-k : tie.Need-add-k Inv-loop μ-loop
+add-k c = search needs
+
+loop-less : tie.Need-loop-less Inv-loop μ-loop
+loop-less c = search needs
+
+loop-again : tie.Need-loop-again Inv-loop μ-loop
+unfolding logicTick logicTold publish hold
+loop-again c = let before = c .before .before .before .before .before .before .loop in
+    let k = before .k in
+    let e : k + 1 - 1 ≡ k = omega arith in (
+      omega arith,
+      λ m.
+          rw (
+            more logicTick _ k,
+            ← before .inv .1 m,
+            logic-number (k + 1) (omega arith) (omega arith),
+            logic-value (k + 1) (omega arith) (omega arith),
+            e,
+            c .pattern .ensures,
+            back (c .before .number .ok) (c .before .number .ensures),
+            c .before .before .before .selection-of .ensures,
+          ),
+    )
+
+returns : tie.Need-returns Inv-loop μ-loop
+returns c = λ m. done logicTick _ (c .before .loop .k) 2 (omega arith) (c .before .loop .inv .1 m)
+
+pub logics-spec : {M : Type 1} → statement M
+logics-spec =
+    tie.close
+    (tie.spec
+    Inv-loop
+    μ-loop
+    loop-holds
+    add-selection-of
+    selection-of-requires
+    cast-words
+    add-words
+    mul-words
+    element-write-words
+    number-requires
+    pattern-requires
+    add-words-2
+    mul-words-2
+    element-write-words-2
+    add-signals
+    mul-signals
+    array-set-from-signals
+    add-k
+    loop-less
+    loop-again
+    returns)

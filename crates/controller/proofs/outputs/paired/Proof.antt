@@ -1,0 +1,23 @@
+-- The contracts, one inside the other.
+use borrow.Author.Needs.{needs}
+use Rattle.controller.proofs.outputs.paired.Statement.{statement}
+use Rattle.controller.proofs.outputs.paired.Tie as tie
+
+byte-at-requires : tie.Need-byte-at-requires
+byte-at-requires c κs = search needs
+
+add-byte-at : tie.Need-add-byte-at
+add-byte-at c = search needs
+
+byte-at-requires-2 : tie.Need-byte-at-requires-2
+byte-at-requires-2 c κs = search needs
+
+look-up-requires : tie.Need-look-up-requires
+look-up-requires c κs = search needs
+
+returns : tie.Need-returns
+returns c = rw (c .look-up .ensures, c .before .before .byte-at .ensures, c .before .byte-at2 .ensures)
+
+pub paired-spec : {M : Type 1} → statement M
+paired-spec =
+    tie.close (tie.spec byte-at-requires add-byte-at byte-at-requires-2 look-up-requires returns)
