@@ -1,0 +1,193 @@
+"""A test of the tests: would the sessions notice a product that is wrong?
+
+Each row below is one way to build the controller otherwise: another reading of the paper
+(OP n: the open point), a trap of the trade, or a plain slip. It is given as a change to
+the model's text. The changed model is run on the same sessions, and the line at which it
+first answers otherwise is printed. A change that no session notices fails the run.
+
+    python3 other_readings.py [SEED [LINES]]
+"""
+
+import pathlib
+import sys
+import types
+
+import sessions
+
+SOURCE = pathlib.Path(__file__).with_name("model.py").read_text()
+
+CHANGES = (
+    # -- names and frames
+    ("sub 0 of an array taken as its first element", "subs = {0: Entry(index, 0, u8(0, 255, len(kinds)), False, False)}", "subs = {0: Entry(index, 0, kinds[0], writable, configuration)}"),
+    ("OP 4: sub 0 of 5010h is 13", "for sub in (1, 2):\n            self.entry(0x5010, sub).writable", "self.entry(0x5010, 0).value = 13\n        for sub in (1, 2):\n            self.entry(0x5010, sub).writable"),
+    ("X points bound from below only", "if entry.above is not None and value", "if entry.above is not None and entry.index & 0xFF0F != 0x3005 and value"),
+    ("OP 13: 7148h not in the chain", "(0x7148, 0, 0x7120),", ""),
+    ("7148h < 7120h, strict", "(0x7148, 0, 0x7120)", "(0x7148, 1, 0x7120)"),
+    ("7122h < 7149h, strict", "(0x7122, 0, 0x7149)", "(0x7122, 1, 0x7149)"),
+    ("X points strictly rising", "self._link(lower, 0, upper)", "self._link(lower, 1, upper)"),
+    ("FV1 = FV2 allowed", "(0x7321, 1, 0x7323)", "(0x7321, 0, 0x7323)"),
+    ("EC scalings have no chain", "(0x2520, 1, 0x2522),", ""),
+    ("OP 17: 27h is an unknown command", "0x27: 3, ", ""),
+    ("22h is taken", "WRITES = {", "WRITES = {0x22: 4, "),
+    ("OP 18: infinity is above", "return 7, 0x06090030", "return 7, 0x06090031 if value > 0 else 0x06090030"),
+    ("OP 19: length before read-only", "if not entry.writable:\n        return 5, 0x06010002\n    if size > entry.type.size:\n        return 6, 0x06070012", "if size > entry.type.size:\n        return 6, 0x06070012\n    if not entry.writable:\n        return 5, 0x06010002"),
+    ("OP 8: -0 stored as +0", "entry.value = kind.form.unpack_from(frame, 4)[0]", "entry.value = kind.form.unpack_from(frame, 4)[0] + 0"),
+    ("OP 8: subnormals stored as 0", "entry.value = kind.form.unpack_from(frame, 4)[0]", "entry.value = kind.form.unpack_from(frame, 4)[0]\n    if kind is REAL32 and abs(entry.value) < 2.0**-126: entry.value = 0.0"),
+    ("80h is answered", " or frame[0] == 0x80", ""),
+    ("an abort names 0", 'return b"\\x80" + name +', 'return b"\\x80\\0\\0\\0" +'),
+    # -- one tick in general
+    ("EC not available until written", "return self.entry.value", "return self.entry.value if self.entry.index != 0x2500 or self.entry.value else ABSENT"),
+    ("numbers count from 0", "enumerate(row, 1)})", "enumerate(row)})"),
+    ("OP 24: constants 1 and 2 are no sources", "(CONSTANT, constants)", "(CONSTANT, [None, None] + constants[2:])"),
+    ("tables before math", "(self.math, self.tables, self.logic, self.outputs)", "(self.tables, self.math, self.logic, self.outputs)"),
+    ("logic before tables", "(self.math, self.tables, self.logic, self.outputs)", "(self.math, self.logic, self.tables, self.outputs)"),
+    ("outputs first", "(self.math, self.tables, self.logic, self.outputs)", "(self.outputs, self.math, self.tables, self.logic)"),
+    ("each kind in falling order", "for block in row:\n                block.step()", "for block in reversed(row):\n                block.step()"),
+    ("OP 20: 4530h cleared when math is switched off", "entry.value = kind.form.unpack_from(frame, 4)[0]", "entry.value = kind.form.unpack_from(frame, 4)[0]\n    if entry.index == 0x4500 and entry.value == 0: dictionary.entry(0x4530, entry.sub).value = 0.0"),
+    ("OP 22: a block switched off is missing at once", "return ABSENT if block is None else block.signal", "return ABSENT if block is None or isinstance(block, (Math, Logic)) and not block.enable.value else block.signal"),
+    ("OP 27: math entry keeps its last number", "self.output.value = self.signal if is_number(self.signal) else 0.0", "self.output.value = self.signal if is_number(self.signal) else self.output.value"),
+    ("table entry keeps its last number", "self.signal = self.curve(integer16(x)) if is_number(x) else x\n        self.output.value = self.signal if is_number(self.signal) else 0", "self.signal = self.curve(integer16(x)) if is_number(x) else x\n        self.output.value = self.signal if is_number(self.signal) else self.output.value"),
+    ("1001h stays", "if any(block.flagged for block in self.inputs) else 0", "if any(block.flagged for block in self.inputs) else self.error_register.value"),
+    ("1001h from input 1 only", "any(block.flagged for block in self.inputs)", "self.inputs[0].flagged"),
+    # -- whole numbers
+    ("halves toward plus", "    size = (2 * abs(numerator) + denominator) // (2 * denominator)\n    return -size if numerator < 0 else size", "    return (2 * numerator + denominator) // (2 * denominator)"),
+    ("halves to even", "    size = (2 * abs(numerator) + denominator) // (2 * denominator)\n    return -size if numerator < 0 else size", "    import fractions\n    return round(fractions.Fraction(numerator, denominator))"),
+    ("cut off, not rounded", "(2 * abs(numerator) + denominator) // (2 * denominator)", "abs(numerator) // denominator"),
+    ("the increment rounded, not the value", "return nearest(y1 * run + (x - x1) * (y2 - y1), run)", "return y1 + nearest((x - x1) * (y2 - y1), run)"),
+    ("REAL32 cut off", "return nearest(*limit(number, -32768.0, 32767.0).as_integer_ratio())", "return int(limit(number, -32768.0, 32767.0))"),
+    ("REAL32 to even", "return nearest(*limit(number, -32768.0, 32767.0).as_integer_ratio())", "return round(limit(number, -32768.0, 32767.0))"),
+    ("REAL32 + 0.5 in REAL32", "return nearest(*limit(number, -32768.0, 32767.0).as_integer_ratio())", "return int(math.copysign(math.floor(real32(abs(limit(number, -32768.0, 32767.0)) + 0.5)), number))"),
+    ("REAL32 wraps round", "return nearest(*limit(number, -32768.0, 32767.0).as_integer_ratio())", "return (nearest(*number.as_integer_ratio()) + 32768) % 65536 - 32768"),
+    # -- input
+    ("delay, not delay + 1", "self.run >= self.delay.value + 1", "self.run >= max(1, self.delay.value)"),
+    ("delay + 2", "self.run >= self.delay.value + 1", "self.run >= self.delay.value + 2"),
+    ("OP 29: run frozen while detect is off", "self.run, self.flagged = 0, False", "self.flagged = False"),
+    ("OP 30: only equality flags", "self.run >= self.delay.value + 1", "self.run == self.delay.value + 1"),
+    ("OP 31: flag follows the run", "if self.run >= self.delay.value + 1:\n                self.flagged = True", "self.flagged = self.run >= self.delay.value + 1"),
+    ("OP 33: bounds wrap round", "self.run += 1\n", "self.run += 1\n            margin = self.hysteresis.value\n            if (start + margin + 32768) % 65536 - 32768 <= sample <= (end - margin + 32768) % 65536 - 32768:\n                self.flagged = False\n                return\n"),
+    ("OP 21: a new delay starts the run again", "start, end = self.start.value, self.end.value\n", "start, end = self.start.value, self.end.value\n        if getattr(self, 'seen', None) != self.delay.value:\n            self.run = 0\n        self.seen = self.delay.value\n"),
+    ("OP 34: one side is enough", "if start + margin <= sample <= end - margin", "if start + margin <= sample or sample <= end - margin"),
+    ("hysteresis not used", "if start + margin <= sample <= end - margin", "if start <= sample <= end"),
+    ("clearing band without its low end", "if start + margin <= sample", "if start + margin < sample"),
+    ("clearing band without its high end", "<= sample <= end - margin", "<= sample < end - margin"),
+    ("OP 37: run kept inside the span", "        self.run = 0\n        margin", "        margin"),
+    ("OP 38: limited sample tested", "self.watch(sample)", "self.watch(limit(sample, self.fv1.value, self.fv2.value))"),
+    ("start itself is out", "sample < start or", "sample <= start or"),
+    ("end itself is out", "or sample > end:", "or sample >= end:"),
+    ("flagged input keeps its PV", "self.signal, self.pv.value = ERROR, 0", "self.signal = ERROR"),
+    ("detect off keeps the flag", "self.run, self.flagged = 0, False", "self.run = 0"),
+    ("sample not limited", "line(limit(sample, fv1, fv2), fv1", "line(sample, fv1"),
+    # -- math
+    ("OP 40: error before a missing input 1", "if signals[0] is ABSENT:  # before", "if signals[0] is ABSENT and ERROR not in signals:  # before"),
+    ("OP 42: part x gain / 100", "real32(part * real32(self.gain.value / 100))", "real32(real32(part * self.gain.value) / 100)"),
+    ("OP 42: gain x 0.01", "real32(self.gain.value / 100)", "real32(self.gain.value * real32(0.01))"),
+    ("multiplied by the reciprocal", "real32(real32(v - scaling1) / span)", "real32(real32(v - scaling1) * real32(1 / span))"),
+    ("v - scaling 1 not rounded", "real32(real32(v - scaling1) / span)", "real32((v - scaling1) / span)"),
+    ("product with the gain not rounded", "return real32(part * real32(self.gain.value / 100))", "return part * real32(self.gain.value / 100)"),
+    ("gain / 100 not rounded", "real32(part * real32(self.gain.value / 100))", "real32(part * (self.gain.value / 100))"),
+    ("part not rounded", "limit(real32(real32(v - scaling1) / span), 0.0, 1.0)", "limit(real32(v - scaling1) / span, 0.0, 1.0)"),
+    ("multiply and add in one rounding", "grown = real32(limit(running, 0.0, 1.0) * real32(high - low))", "grown = limit(running, 0.0, 1.0) * real32(high - low)"),
+    ("joins in binary64", "real32(running + operand)", "running + operand"),
+    ("part not limited", "limit(real32(real32(v - scaling1) / span), 0.0, 1.0)", "real32(real32(v - scaling1) / span)"),
+    ("no limit after an operator", "return result if result is ERROR else limit(result, -1.0, 1.0)", "return result"),
+    ("limited to 0..1 after an operator", "limit(result, -1.0, 1.0)", "limit(result, 0.0, 1.0)"),
+    ("OP 43: an infinity is an error", "return real32(running / operand)", "return ERROR if math.isinf(real32(running / operand)) else real32(running / operand)"),
+    ("OP 44: 0 / 0 is 0", "if operand == 0.0:\n        return ERROR", "if operand == 0.0:\n        return 0.0 if running == 0 else ERROR"),
+    ("dividing by -0 is -infinity", "if operand == 0.0:\n        return ERROR", "if operand == 0.0:\n        return ERROR if math.copysign(1, operand) > 0 else -1.0"),
+    ("OP 45: division by zero skips", "if running is ERROR:  # whatever follows (OP 45)\n                return ERROR", "if running is ERROR:\n                running = 1.0"),
+    ("subnormal operands are zero", "return real32(part * real32(self.gain.value / 100))", "x = real32(part * real32(self.gain.value / 100))\n        return x if abs(x) >= 2.0**-126 else 0.0"),
+    ("smaller and larger changed over", "operand if operand < running else running", "operand if operand > running else running"),
+    ("a skipped input's operator is used by the next", "join(self.operators[k - 1].value, running", "join(self.operators[sum(s is not ABSENT for s in signals[:k]) - 1].value, running"),
+    ("an unavailable input counts as 0", "if signals[k] is ABSENT:  # \"An", "if signals[k] is ABSENT and 0:  # \"An"),
+    ("disabled math keeps its signal", "if not self.enable.value:\n            return ABSENT\n        signals", "if not self.enable.value:\n            return self.signal\n        signals"),
+    # -- table
+    ("responses counted from point 1", "[None, None] + names.array_of(base + 4)[1:]", "[None] + names.array_of(base + 4)[1:] + [names.array_of(base + 4)[10]]"),
+    ("the point with response 0 is used", "return i - 1\n        return 11", "return i\n        return 11"),
+    ("OP 54: last of equal X", "if x <= self.x[i].value:", "if x < self.x[i].value or (x == self.x[i].value and (i == m or self.x[i + 1].value != x)):"),
+    ("OP 55: response 2 is the point before", "return self.y[i].value\n        return line", "return self.y[i - 1].value\n        return line"),
+    ("beyond Xm: the line goes on to Y11", "return self.y[m].value", "return self.y[11].value"),
+    ("an error X is not available", "if is_number(x) else x", "if is_number(x) else ABSENT"),
+    # -- logic
+    ("OP 3: conditions the other way", "base + 0x10 * letter + c) for c in (1, 2, 3)] for letter", "base + 0x10 * c + letter) for c in (1, 2, 3)] for letter"),
+    ("OP 58: error before missing", "if a is ABSENT or b is ABSENT:", "if (a is ABSENT or b is ABSENT) and a is not ERROR and b is not ERROR:"),
+    ("operator 1: N/A is false", "all(verdict is TRUE or verdict is NA for verdict", "all(verdict is TRUE for verdict"),
+    ("operator 1: error is true", "all(verdict is TRUE or verdict is NA for verdict", "all(verdict is not FALSE for verdict"),
+    ("operators 2 to 4: N/A is true", "(verdict is TRUE for verdict in verdicts)", "(verdict is TRUE or verdict is NA for verdict in verdicts)"),
+    ("operators 2 to 4: error is true", "(verdict is TRUE for verdict in verdicts)", "(verdict is TRUE or verdict is FAULT for verdict in verdicts)"),
+    ("operator 3: 1 and (2 or 3)", "(one and two) or three", "one and (two or three)"),
+    ("operator 4: 1 or (2 and 3)", "(one or two) and three", "one or (two and three)"),
+    ("OP 60: table A where none holds", "                return letter\n        return None", "                return letter\n        return 0"),
+    ("OP 62: whole numbers compared", "[self.comparison.value](a, b)", "[self.comparison.value](integer16(a), integer16(b))"),
+    ("OP 63: 4010h is 0 where the table has no number", "self.output.value = self.signal if is_number(self.signal) else 0\n\n    def first", "self.output.value = self.signal if is_number(self.signal) else 0\n        if not is_number(self.signal): self.selected.value = 0\n\n    def first"),
+    ("disabled logic keeps its signal", "if letter is None:  # \"None", "if not self.enable.value:\n            pass\n        elif letter is None:  # \"None"),
+    # -- output
+    ("OP 64: on is rounded first", "(signal != 0)", "(integer16(signal) != 0)"),
+    ("on is above 0", "(signal != 0)", "(signal > 0)"),
+    ("OP 65: missing is off, then turned round", "if not is_number(signal):  # error", "if signal is ABSENT and self.pair.source.index == 0x2350: return ON if self.response.value == 0 else OFF\n        if not is_number(signal):  # error"),
+    ("OP 65: missing override turned round is on", "if not is_number(signal):  # error", "if signal is ABSENT and self.pair.source.index == 0x2360: return ON if self.response.value == 1 else OFF\n        if not is_number(signal):  # error"),
+    ("response also for an error", "if not is_number(signal):  # error", "if signal is ERROR and self.response.value == 1: return ON\n        if not is_number(signal):  # error"),
+    ("OP 66: mode 0 limited to FV1..FV2", "else self.command.value\n", "else limit(self.command.value, self.fv1.value, self.fv2.value)\n"),
+    ("fault modes changed over", "if self.fault_mode.value == 1 else", "if self.fault_mode.value == 0 else"),
+    ("OP 67: last command not limited", "last = limit(self.command.value, fv1, fv2)", "last = self.command.value"),
+    ("OP 68: ramps changed over", "if target > last else", "if target < last else"),
+    ("step rounded down", "step = -((fv1 - fv2) // ramp)", "step = (fv2 - fv1) // ramp"),
+    ("step one at most", "step = -((fv1 - fv2) // ramp)", "step = 1 + (fv2 - fv1) // ramp"),
+    ("OP 70: override FV limited", "return self.override_fv.value", "return limit(self.override_fv.value, self.fv1.value, self.fv2.value)"),
+    ("OP 71: override FV ramped", "return self.override_fv.value", "return self.ramped(self.override_fv.value)"),
+    ("OP 71: off ramps down", "if rule in (1, 6):\n            return 0", "if rule in (1, 6):\n            return self.ramped(self.fv1.value) if rule == 1 else 0"),
+    ("rule 6 takes the fault", "if rule in (1, 6):", "if rule == 6: return self.fault()\n        if rule == 1:"),
+    ("override before enable", "return 1\n        if enable is ERROR:\n            return 2\n        override", "return 3 if self.override.state() is ON else 1\n        if enable is ERROR:\n            return 2\n        override"),
+    ("control error before override", "if override is ON:\n            return 3", "if self.control.signal() is ERROR: return 5\n        if override is ON:\n            return 3"),
+    ("control not limited to PV1..PV2", "limit(integer16(self.control.signal()), pv1, pv2)", "integer16(self.control.signal())"),
+    # -- session printer
+    ("OP 84: lower case accepted", "[0-9A-F]{16}", "[0-9A-Fa-f]{16}"),
+    ("OP 86: -0 refused", "samples = [int", "if b\"-0\" in text: return b\"?\"\n            samples = [int"),
+    ("OP 86: six digits accepted", "rb\"T (-?[0-9]{1,5})", "rb\"T (-?[0-9]{1,6})"),
+    ("samples beyond INTEGER16 accepted", "if all(-32768 <= sample <= 32767 for sample in samples):", "if 1:"),
+    ("OP 87: CR at the end accepted", "match = _S_LINE.fullmatch(text)", "text = text[:-1] if text[-1:] == b\"\\r\" else text\n        match = _S_LINE.fullmatch(text)"),
+    ("a space at the end accepted", "match = _S_LINE.fullmatch(text)", "text = text.rstrip(b\" \")\n        match = _S_LINE.fullmatch(text)"),
+    ("an empty line prints nothing", "return b\"?\"  #", "return b\"?\" if text else b\"\"  #"),
+    ("1001h in decimal", "%02X\" % (*self", "%02d\" % (*self"),
+)
+
+
+def changed_model(old, new):
+    if SOURCE.count(old) < 1:
+        raise SystemExit("no such text in the model: " + old)
+    module = types.ModuleType("changed")
+    exec(compile(SOURCE.replace(old, new, 1), "changed", "exec"), module.__dict__)
+    return module
+
+
+def noticed_at(module, recorded):
+    """The number of the first line that the changed model answers otherwise, None where there is none."""
+    count = 0
+    for session in recorded:
+        printer = module.Printer()
+        for line, answer in session:
+            count += 1
+            try:
+                came = printer.answer(line)
+            except (ArithmeticError, AttributeError, TypeError, ValueError):
+                return count  # a change that breaks the model is noticed too
+            if came != answer:
+                return count
+    return None
+
+
+def main(arguments):
+    seed = arguments[0] if arguments else "1"
+    lines = int(arguments[1]) if len(arguments) > 1 else 100000
+    recorded = [list(session) for _, session in sessions.plan(seed, lines)]
+    missed = []
+    for title, old, new in CHANGES:
+        at = noticed_at(changed_model(old, new), recorded)
+        print("%9s  %s" % (at or "MISSED", title), flush=True)
+        if at is None:
+            missed.append(title)
+    print("%d of %d changes noticed within %d lines" % (len(CHANGES) - len(missed), len(CHANGES), lines))
+    return 1 if missed else 0
+
+
+if __name__ == "__main__":
+    sys.exit(main(sys.argv[1:]))
