@@ -1,5 +1,2 @@
-pub mod Choosing
-pub mod Conditions
-pub mod Phases
-pub mod Slots
+pub mod Kept
 pub mod TickLaws

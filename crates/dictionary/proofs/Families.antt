@@ -1,216 +1,199 @@
--- The families of indexes, each by one rule, are what the table's rows have: computed for all 256 indexes with the same two first digits.
+-- The rows of an index, read off the table: one row where the index is known, none where it is none of those that begin with the same digits,
+-- and for the second and each further block of a family the first block's row, moved on.
 -- Assumes nothing.
-use mathlib.Core.Path.{_≡_, refl, sym, ap, _∙_, subst}
-use mathlib.Core.Bool.{Bool, true, false, _&&_, _||_, not}
-use mathlib.Core.List.{List, [], _∷_, _++_, flatMap}
-use Prim.Native.Nat.{ℕ, zero, suc, _+_, _-_, _*_, _/_, _%_, _<_, _≤_}
+use mathlib.Core.Path.{_≡_, refl, sym, ap, _∙_}
+use mathlib.Core.Bool.{Bool, true, false, true≢false, _&&_, _||_, not, and-eq-true-iff}
+use mathlib.Core.List.{List, [], _∷_}
+use Prim.Native.Nat.{ℕ, _+_, _-_, _*_, _/_, _%_, _<_, _≤_}
 use native.Mathlib.Omega.{arith}
-use lib.Dec.{eqb, ltb, leb, eqb→eq}
-use lib.ListN.{getD}
-use borrow.Author.Tests.{eqb-true, eqb-false, ne-eqb, lt-ltb, le-ltb}
+use lib.Dec.{eqb, ltb}
+use borrow.Author.Tests.{eqb-true, eqb-false, ne-eqb, eq-eqb, ltb-true, ltb-false}
 use Rattle.numbers.specs.Choice.{first}
-use Rattle.dictionary.specs.Rows.{Row, Value, configuration, received, read-only, u8, u16, i16, i16-between, real32, D, var, array, array-by, each, source, number, condition, axis-or-response, point, operator, conditions, tables, logics, maths}
-use Rattle.dictionary.specs.Names.{insert, ascending, rows, Stretch, stretches-from, stretches, with-index}
-use Rattle.dictionary.specs.Objects.{meant}
+use Rattle.dictionary.specs.Names.{Stretch, stretches, with-index, writable, slot-of}
+use Rattle.dictionary.specs.Objects.{meant, Rows}
 use Rattle.dictionary.specs.declared.objects.Object.{Object}
-use Rattle.dictionary.specs.declared.objects.Object.the-variants.{Unknown, Var, Array, Constants}
+use Rattle.dictionary.specs.declared.objects.Object.the-variants.{Unknown}
 use Rattle.dictionary.proofs.Tabulate.{tabulate, agree}
 
--- the stretches whose index begins with two given digits
-unfoldable pub with-high : ℕ → List Stretch → List Stretch
-with-high high [] = []
-with-high high (s ∷ ss) = first (eqb (s .index / 256) high) (s ∷ with-high high ss) (with-high high ss)
-
--- an index is looked for among those alone
-narrowed : (index high : ℕ) → index / 256 ≡ high → (ss : List Stretch) → with-index index (with-high high ss) ≡ with-index index ss
-unfolding with-index with-high first
-narrowed index high e [] = refl
-narrowed index high e (s ∷ ss) = go (narrowed index high e ss) (eqb (s .index / 256) high) refl (eqb (s .index) index) refl
-  where
-    go : with-index index (with-high high ss) ≡ with-index index ss → (a : Bool) → eqb (s .index / 256) high ≡ a → (b : Bool) → eqb (s .index) index ≡ b → with-index index (first a (s ∷ with-high high ss) (with-high high ss)) ≡ first b (s ∷ with-index index ss) (with-index index ss)
-    go ih true p true q = rw (q, ih)
-    go ih true p false q = rw q ih
-    go ih false p true q = absurd (eqb-false (s .index / 256) high p (ap (λ (i : ℕ). i / 256) (eqb-true (s .index) index q) ∙ e))
-    go ih false p false q = ih
-
--- 10xxh
-unfoldable pub error-register : ℕ → Object
-error-register low =
-    first (eqb low 0x01) (Var 623) Unknown
-
--- 21xxh
-unfoldable pub input-settings : ℕ → Object
-input-settings low =
-    first (eqb (low / 16) 1) (first (ltb (low % 16) 3) (Array (0 + (low % 16) * 4) 4) Unknown) Unknown
-
--- 23xxh
-unfoldable pub output-settings : ℕ → Object
-output-settings low =
-    first (eqb (low / 16) 0) (first (ltb (low % 16) 1) (Array (12 + (low % 16) * 4) 4) Unknown)
-    (first (eqb (low / 16) 3) (first (ltb (low % 16) 2) (Array (16 + (low % 16) * 4) 4) Unknown)
-    (first (eqb (low / 16) 4) (first (ltb (low % 16) 2) (Array (24 + (low % 16) * 4) 4) Unknown)
-    (first (eqb (low / 16) 5) (first (ltb (low % 16) 3) (Array (32 + (low % 16) * 4) 4) Unknown)
-    (first (eqb (low / 16) 6) (first (ltb (low % 16) 3) (Array (44 + (low % 16) * 4) 4) Unknown) Unknown))))
-
--- 25xxh
-unfoldable pub received-values : ℕ → Object
-received-values low =
-    first (eqb low 0x00) (Array 611 12)
-    (first (eqb low 0x02) (Array 56 12)
-    (first (eqb low 0x20) (Array 68 12)
-    (first (eqb low 0x22) (Array 80 12) Unknown)))
-
--- 30znh
-unfoldable pub table-objects : ℕ → Object
-table-objects low =
-    first (ltb (low / 16) 1) Unknown
-    (first (ltb 6 (low / 16)) Unknown
-    (first (ltb (low % 16) 4) (Var (55 + low / 16 * 37 + low % 16))
-    (first (ltb (low % 16) 7) (Array (15 + low / 16 * 37 + low % 16 * 11) 11)
-    (first (eqb (low % 16) 7) (Var (631 + low / 16)) Unknown))))
-
--- 40xxh
-unfoldable pub logic-blocks : ℕ → Object
-logic-blocks low =
-    first (eqb low 0x00) (Array 314 2)
-    (first (eqb low 0x10) (Array 638 2)
-    (first (eqb low 0x20) (Array 640 2) Unknown))
-
--- 41xxh, 42xxh
-unfoldable pub logic-settings : ℕ → ℕ → Object
-logic-settings high low =
-    first (ltb (low % 16) 1) Unknown
-    (first (eqb (low / 16) 0) (first (ltb (low % 16) 3) (Array (262 + (high - 0x40) * 51 + low % 16 * 3) 3) Unknown)
-    (first (ltb 3 (low / 16)) Unknown
-    (first (ltb 3 (low % 16)) Unknown (Array (251 + (high - 0x40) * 51 + low / 16 * 15 + low % 16 * 5) 5))))
-
--- 45xxh
-unfoldable pub math-blocks : ℕ → Object
-math-blocks low =
-    first (eqb low 0x00) (Array 418 4)
-    (first (eqb low 0x21) (Array 422 4)
-    (first (eqb low 0x23) (Array 426 4)
-    (first (eqb low 0x30) (Array 642 4)
-    (first (eqb low 0x32) (Array 430 4) Unknown))))
-
--- 46xxh to 49xxh
-unfoldable pub math-settings : ℕ → ℕ → Object
-math-settings high low =
-    first (ltb low 0x03) (Array (434 + (high - 0x46) * 27 + low * 4) 4)
-    (first (eqb low 0x20) (Array (434 + (high - 0x46) * 27 + 12) 4)
-    (first (eqb low 0x22) (Array (434 + (high - 0x46) * 27 + 16) 4)
-    (first (eqb low 0x40) (Array (434 + (high - 0x46) * 27 + 20) 4)
-    (first (eqb low 0x50) (Array (434 + (high - 0x46) * 27 + 24) 3) Unknown))))
-
--- 50xxh
-unfoldable pub constants : ℕ → Object
-constants low =
-    first (eqb low 0x10) Constants Unknown
-
--- 61xxh
-unfoldable pub input-digits : ℕ → Object
-input-digits low =
-    first (eqb low 0x32) (Array 555 4) Unknown
-
--- 63xxh
-unfoldable pub output-digits : ℕ → Object
-output-digits low =
-    first (eqb low 0x02) (Array 559 4)
-    (first (eqb low 0x40) (Array 563 4) Unknown)
-
--- 71xxh
-unfoldable pub inputs : ℕ → Object
-inputs low =
-    first (eqb low 0x00) (Array 624 4)
-    (first (eqb (low / 16) 2) (first (ltb (low % 16) 4) (Array (567 + (low % 16) * 4) 4) Unknown)
-    (first (eqb low 0x30) (Array 628 4)
-    (first (eqb low 0x48) (Array 583 4)
-    (first (eqb low 0x49) (Array 587 4) Unknown))))
-
--- 73xxh
-unfoldable pub outputs : ℕ → Object
-outputs low =
-    first (eqb (low / 16) 2) (first (ltb (low % 16) 4) (Array (591 + (low % 16) * 4) 4) Unknown)
-    (first (eqb low 0x30) (Array 646 4)
-    (first (eqb low 0x41) (Array 607 4) Unknown))
-
--- 1xxxh and 2xxxh
-unfoldable pub below-3000 : ℕ → ℕ → Object
-below-3000 high low =
-    first (eqb high 0x21) (input-settings low)
-    (first (eqb high 0x23) (output-settings low)
-    (first (eqb high 0x25) (received-values low)
-    (first (eqb high 0x10) (error-register low) Unknown)))
-
--- 4xxxh
-unfoldable pub below-5000 : ℕ → ℕ → Object
-below-5000 high low =
-    first (eqb high 0x40) (logic-blocks low)
-    (first (ltb high 0x43) (logic-settings high low)
-    (first (eqb high 0x45) (math-blocks low)
-    (first (ltb high 0x46) Unknown
-    (first (ltb high 0x4A) (math-settings high low) Unknown))))
-
--- from 5000h on
-unfoldable pub from-5000 : ℕ → ℕ → Object
-from-5000 high low =
-    first (eqb high 0x71) (inputs low)
-    (first (eqb high 0x73) (outputs low)
-    (first (eqb high 0x50) (constants low)
-    (first (eqb high 0x61) (input-digits low)
-    (first (eqb high 0x63) (output-digits low) Unknown))))
-
-unfoldable pub by-digits : ℕ → ℕ → Object
-by-digits high low =
-    first (ltb high 0x30) (below-3000 high low)
-    (first (eqb high 0x30) (table-objects low)
-    (first (ltb high 0x40) Unknown
-    (first (ltb high 0x50) (below-5000 high low) (from-5000 high low))))
-
-computed : tabulate 256 0 (λ high. tabulate 256 0 (λ low. meant (by-digits high low) (high * 256 + low))) ≡ tabulate 256 0 (λ high. tabulate 256 0 (λ low. with-index (high * 256 + low) (with-high high stretches)))
-unfolding stretches with-index with-high tabulate meant first by-digits below-3000 below-5000 from-5000 error-register input-settings output-settings received-values table-objects logic-blocks logic-settings math-blocks math-settings constants input-digits output-digits inputs outputs
-computed = refl
-
--- so the rules by digits have the table's rows at every index
-pub rows-by-digits : (high low : ℕ) → high < 256 → low < 256 → (o : Object) → o ≡ by-digits high low → meant o (high * 256 + low) ≡ with-index (high * 256 + low) stretches
-rows-by-digits high low hh hl o e =
-    ap (λ (x : Object). meant x (high * 256 + low)) e
-    ∙ agree 256 (λ n. meant (by-digits high n) (high * 256 + n)) (λ n. with-index (high * 256 + n) (with-high high stretches)) []
-    (agree 256 (λ h. tabulate 256 0 (λ n. meant (by-digits h n) (h * 256 + n))) (λ h. tabulate 256 0 (λ n. with-index (h * 256 + n) (with-high h stretches))) [] computed high hh)
-    low hl
-    ∙ narrowed (high * 256 + low) high (omega arith) stretches
-
--- ---- the same for the functions that share out the indexes
-
-module _ (high low : ℕ) (l : low < 256) {o : Object} where
-  pub in-logic-settings : 0x41 ≤ high → high < 0x43 → o ≡ logic-settings high low → meant o (high * 256 + low) ≡ with-index (high * 256 + low) stretches
-  unfolding by-digits below-5000 first
-  in-logic-settings a b e =
-      rows-by-digits high low (omega arith) l o
-      (e ∙ simp (le-ltb high 0x30 (omega arith), ne-eqb high 0x30 (λ q. omega arith), le-ltb high 0x40 (omega arith), lt-ltb high 0x50 (omega arith), ne-eqb high 0x40 (λ q. omega arith), lt-ltb high 0x43 b))
-
-  pub in-math-settings : 0x46 ≤ high → high < 0x4A → o ≡ math-settings high low → meant o (high * 256 + low) ≡ with-index (high * 256 + low) stretches
-  unfolding by-digits below-5000 first
-  in-math-settings a b e =
-      rows-by-digits high low (omega arith) l o
-      (e ∙ simp (le-ltb high 0x30 (omega arith), ne-eqb high 0x30 (λ q. omega arith), le-ltb high 0x40 (omega arith), lt-ltb high 0x50 (omega arith), ne-eqb high 0x40 (λ q. omega arith), le-ltb high 0x43 (omega arith), ne-eqb high 0x45 (λ q. omega arith), le-ltb high 0x46 a, lt-ltb high 0x4A b))
-
-  pub in-below-3000 : high < 0x30 → o ≡ below-3000 high low → meant o (high * 256 + low) ≡ with-index (high * 256 + low) stretches
-  unfolding by-digits first
-  in-below-3000 b e = rows-by-digits high low (omega arith) l o (e ∙ simp (lt-ltb high 0x30 b))
-
-  pub in-below-5000 : 0x40 ≤ high → high < 0x50 → o ≡ below-5000 high low → meant o (high * 256 + low) ≡ with-index (high * 256 + low) stretches
-  unfolding by-digits first
-  in-below-5000 a b e =
-      rows-by-digits high low (omega arith) l o
-      (e ∙ simp (le-ltb high 0x30 (omega arith), ne-eqb high 0x30 (λ q. omega arith), le-ltb high 0x40 a, lt-ltb high 0x50 b))
-
-  pub in-from-5000 : 0x50 ≤ high → high < 256 → o ≡ from-5000 high low → meant o (high * 256 + low) ≡ with-index (high * 256 + low) stretches
-  unfolding by-digits first
-  in-from-5000 a b e =
-      rows-by-digits high low b l o
-      (e ∙ simp (le-ltb high 0x30 (omega arith), ne-eqb high 0x30 (λ q. omega arith), le-ltb high 0x40 (omega arith), le-ltb high 0x50 a))
-
 -- two names for one index
-pub moved : (i j : ℕ) (o : Object) → i ≡ j → meant o j ≡ with-index j stretches → meant o i ≡ with-index i stretches
-moved i j o e h = rw e h
+pub moved : {i j : ℕ} {o : Object} → i ≡ j → Rows o j → Rows o i
+moved e h = rw e h
+
+-- the row of a known index, computed
+pub here : (base : ℕ) {low k : ℕ} {o : Object} → low ≡ k → meant o (base + k) ≡ with-index (base + k) stretches → Rows o (base + low)
+here base e h = record { are = rw e h }
+
+-- ---- an index that has no row
+
+-- the stretches whose index begins with given digits: q, where the index is divided by d
+unfoldable pub with-part : ℕ → ℕ → List Stretch → List Stretch
+with-part d q [] = []
+with-part d q (s ∷ ss) = first (eqb (s .index / d) q) (s ∷ with-part d q ss) (with-part d q ss)
+
+-- the digits that follow in each
+unfoldable pub last-digits : ℕ → List Stretch → List ℕ
+last-digits d [] = []
+last-digits d (s ∷ ss) = s .index % d ∷ last-digits d ss
+
+-- what a match tells where no arm is taken, arm by arm: x is none of the keys
+abbrev pub apart-from : Type 0 → List ℕ → ℕ → Type 0
+apart-from N [] x = N
+apart-from N (k ∷ ks) x = apart-from (N × (x ≡ k → ⊥)) ks x
+
+abbrev pub Apart : List ℕ → ℕ → Type 0
+Apart ks x = apart-from Unit ks x
+
+pub apart-first : (N : Type 0) (ks : List ℕ) (x : ℕ) → apart-from N ks x → N
+apart-first N [] x a = a
+apart-first N (k ∷ ks) x a = apart-first (N × (x ≡ k → ⊥)) ks x a .0
+
+none : (d q index x : ℕ) → index / d ≡ q → x ≡ index % d → (ss : List Stretch) (N : Type 0) → apart-from N (last-digits d (with-part d q ss)) x → with-index index ss ≡ []
+unfolding with-index with-part last-digits first
+none d q index x e m [] N a = refl
+none d q index x e m (s ∷ ss) N a = go (none d q index x e m ss) (eqb (s .index / d) q) refl (eqb (s .index) index) refl a
+  where
+    go : ((N : Type 0) → apart-from N (last-digits d (with-part d q ss)) x → with-index index ss ≡ []) → (p : Bool) → eqb (s .index / d) q ≡ p → (t : Bool) → eqb (s .index) index ≡ t
+        → apart-from N (last-digits d (first p (s ∷ with-part d q ss) (with-part d q ss))) x → first t (s ∷ with-index index ss) (with-index index ss) ≡ []
+    go ih true p true t a =
+        absurd (apart-first (N × (x ≡ s .index % d → ⊥)) (last-digits d (with-part d q ss)) x a .1 (m ∙ ap (λ (i : ℕ). i % d) (sym (eqb-true (s .index) index t))))
+    go ih true p false t a = ih (N × (x ≡ s .index % d → ⊥)) a
+    go ih false p true t a = absurd (eqb-false (s .index / d) q p (ap (λ (i : ℕ). i / d) (eqb-true (s .index) index t) ∙ e))
+    go ih false p false t a = ih N a
+
+-- the keys of the match over an index's last two digits are those of all rows that begin with its first two
+pub no-row : (high low : ℕ) → low < 256 → Apart (last-digits 256 (with-part 256 high stretches)) low → Rows Unknown (high * 256 + low)
+unfolding meant
+no-row high low h a = record { are = sym (none 256 high (high * 256 + low) low (omega arith) (omega arith) stretches Unit a) }
+
+-- no row has an index from one bound to another
+unfoldable pub all-outside : ℕ → ℕ → List Stretch → Bool
+all-outside low high [] = true
+all-outside low high (s ∷ ss) = (ltb (s .index) low || not (ltb (s .index) high)) && all-outside low high ss
+
+outside-none : (low high index : ℕ) → low ≤ index → index < high → (ss : List Stretch) → all-outside low high ss ≡ true → with-index index ss ≡ []
+unfolding all-outside with-index first
+outside-none low high index l h [] e = refl
+outside-none low high index l h (s ∷ ss) e =
+    let both = and-eq-true-iff (ltb (s .index) low || not (ltb (s .index) high)) (all-outside low high ss) .0 e in
+    rw (ne-eqb (s .index) index (λ q. differs q (ltb (s .index) low) refl (ltb (s .index) high) refl (both .0))) (outside-none low high index l h ss (both .1))
+  where
+    differs : s .index ≡ index → (a : Bool) → ltb (s .index) low ≡ a → (b : Bool) → ltb (s .index) high ≡ b → (a || not b) ≡ true → ⊥
+    differs q true p b r t = let k = ltb-true (s .index) low p in omega arith
+    differs q false p true r t = let z : _≡_ {A = Bool} false true = t in true≢false (sym z)
+    differs q false p false r t = let k = ltb-false (s .index) high r in omega arith
+
+pub no-row-between : (low high : ℕ) {index : ℕ} → low ≤ index → index < high → all-outside low high stretches ≡ true → Rows Unknown index
+unfolding meant
+no-row-between low high {index} l h e = record { are = sym (outside-none low high index l h stretches e) }
+
+-- the first digits of all rows, each once
+unfoldable pub without : ℕ → List ℕ → List ℕ
+without k [] = []
+without k (n ∷ ns) = first (eqb n k) (without k ns) (n ∷ without k ns)
+
+unfoldable pub families-of : List Stretch → List ℕ
+families-of [] = []
+families-of (s ∷ ss) = s .index / 256 ∷ without (s .index / 256) (families-of ss)
+
+unfoldable pub member : ℕ → List ℕ → Bool
+member k [] = false
+member k (n ∷ ns) = eqb n k || member k ns
+
+apart-member : (N : Type 0) (ks : List ℕ) (x k : ℕ) → apart-from N ks x → member k ks ≡ true → x ≡ k → ⊥
+unfolding member
+apart-member N [] x k a m e = true≢false (sym m)
+apart-member N (n ∷ ns) x k a m e = go (apart-member (N × (x ≡ n → ⊥)) ns x k a) (eqb n k) refl m
+  where
+    go : (member k ns ≡ true → x ≡ k → ⊥) → (b : Bool) → eqb n k ≡ b → (b || member k ns) ≡ true → ⊥
+    go ih true p m = apart-first (N × (x ≡ n → ⊥)) ns x a .1 (e ∙ sym (eqb-true n k p))
+    go ih false p m = ih m e
+
+unfoldable pub all-in : List ℕ → List Stretch → Bool
+all-in ks [] = true
+all-in ks (s ∷ ss) = member (s .index / 256) ks && all-in ks ss
+
+all-in-none : (ks : List ℕ) (index : ℕ) → Apart ks (index / 256) → (ss : List Stretch) → all-in ks ss ≡ true → with-index index ss ≡ []
+unfolding all-in with-index first
+all-in-none ks index a [] e = refl
+all-in-none ks index a (s ∷ ss) e =
+    let both = and-eq-true-iff (member (s .index / 256) ks) (all-in ks ss) .0 e in
+    rw (ne-eqb (s .index) index (λ q. apart-member Unit ks (index / 256) (s .index / 256) a (both .0) (ap (λ (i : ℕ). i / 256) (sym q)))) (all-in-none ks index a ss (both .1))
+
+families-complete : all-in (families-of stretches) stretches ≡ true
+unfolding all-in member families-of without stretches first
+families-complete = refl
+
+-- the keys of the match over an index's first two digits are those of all rows
+pub no-family : (index : ℕ) → Apart (families-of stretches) (index / 256) → Rows Unknown index
+unfolding meant
+no-family index a = record { are = sym (all-in-none (families-of stretches) index a stretches families-complete) }
+
+-- ---- blocks of a family
+
+-- a block's rows moved on: indexes by a step, configured slots by so many entries, the others by one for each block
+unfoldable pub shifted : ℕ → ℕ → ℕ → List Stretch → List Stretch
+shifted entries blocks step [] = []
+shifted entries blocks step (s ∷ ss) =
+    record { index = s .index + step; from = s .from; to = s .to; slot = s .slot + first (ltb (s .slot) writable) entries blocks } ∷ shifted entries blocks step ss
+
+same-moved : (i j step : ℕ) → eqb (i + step) (j + step) ≡ eqb i j
+same-moved i j step = go (eqb i j) refl
+  where
+    go : (b : Bool) → eqb i j ≡ b → eqb (i + step) (j + step) ≡ b
+    go true e = eq-eqb (i + step) (j + step) (ap (λ (n : ℕ). n + step) (eqb-true i j e))
+    go false e = ne-eqb (i + step) (j + step) (λ q. eqb-false i j e (omega arith))
+
+moved-on : (entries blocks step index : ℕ) (ss : List Stretch) → with-index (index + step) (shifted entries blocks step ss) ≡ shifted entries blocks step (with-index index ss)
+unfolding with-index shifted first
+moved-on entries blocks step index [] = refl
+moved-on entries blocks step index (s ∷ ss) = rw (same-moved (s .index) index step) (go (moved-on entries blocks step index ss) (eqb (s .index) index))
+  where
+    t : Stretch
+    t = record { index = s .index + step; from = s .from; to = s .to; slot = s .slot + first (ltb (s .slot) writable) entries blocks }
+
+    go : with-index (index + step) (shifted entries blocks step ss) ≡ shifted entries blocks step (with-index index ss) → (b : Bool)
+        → first b (t ∷ with-index (index + step) (shifted entries blocks step ss)) (with-index (index + step) (shifted entries blocks step ss)) ≡ shifted entries blocks step (first b (s ∷ with-index index ss) (with-index index ss))
+    go ih true = ap (λ (l : List Stretch). t ∷ l) ih
+    go ih false = ih
+
+-- an index is looked for among those alone that begin with its digits
+narrowed : (d q index : ℕ) → index / d ≡ q → (ss : List Stretch) → with-index index (with-part d q ss) ≡ with-index index ss
+unfolding with-index with-part first
+narrowed d q index e [] = refl
+narrowed d q index e (s ∷ ss) = go (narrowed d q index e ss) (eqb (s .index / d) q) refl (eqb (s .index) index) refl
+  where
+    go : with-index index (with-part d q ss) ≡ with-index index ss → (a : Bool) → eqb (s .index / d) q ≡ a → (b : Bool) → eqb (s .index) index ≡ b → with-index index (first a (s ∷ with-part d q ss) (with-part d q ss)) ≡ first b (s ∷ with-index index ss) (with-index index ss)
+    go ih true p true t = rw (t, ih)
+    go ih true p false t = rw t ih
+    go ih false p true t = absurd (eqb-false (s .index / d) q p (ap (λ (i : ℕ). i / d) (eqb-true (s .index) index t) ∙ e))
+    go ih false p false t = ih
+
+-- n blocks, each with the next digit d of the index, each so many entries after the one before it
+module _ (n d q entries : ℕ) (alike : tabulate n 0 (λ x. shifted (x * entries) x (x * d) (with-part d q stretches)) ≡ tabulate n 0 (λ x. with-part d (q + x) stretches)) where
+  block : (x index : ℕ) → x < n → index / d ≡ q → (index + x * d) / d ≡ q + x → with-index (index + x * d) stretches ≡ shifted (x * entries) x (x * d) (with-index index stretches)
+  block x index h e f =
+      sym (narrowed d (q + x) (index + x * d) f stretches)
+      ∙ ap (with-index (index + x * d)) (sym (agree n (λ x. shifted (x * entries) x (x * d) (with-part d q stretches)) (λ x. with-part d (q + x) stretches) [] alike x h))
+      ∙ moved-on (x * entries) x (x * d) index (with-part d q stretches)
+      ∙ ap (shifted (x * entries) x (x * d)) (narrowed d q index e stretches)
+
+  pub in-block : (x base : ℕ) {low k : ℕ} {o : Object} → x < n → (base + low) / d ≡ q → (base + low + x * d) / d ≡ q + x → low ≡ k
+      → meant o (base + k + x * d) ≡ shifted (x * entries) x (x * d) (with-index (base + k) stretches) → Rows o (base + low + x * d)
+  in-block x base {low} h e f at row = record { are = rw (block x (base + low) h e f) (rw at row) }
+
+  pub not-in-block : (x base : ℕ) {low : ℕ} → x < n → (base + low) / d ≡ q → (base + low + x * d) / d ≡ q + x → low ≡ (base + low) % d → Apart (last-digits d (with-part d q stretches)) low
+      → Rows Unknown (base + low + x * d)
+  unfolding meant shifted
+  not-in-block x base {low} h e f m a = record { are = rw (block x (base + low) h e f, none d q (base + low) low e m stretches Unit a) }
+
+pub tables-alike : tabulate 6 0 (λ x. shifted (x * (slot-of 0x3020 0 - slot-of 0x3010 0)) x (x * 16) (with-part 16 0x301 stretches)) ≡ tabulate 6 0 (λ x. with-part 16 (0x301 + x) stretches)
+unfolding tabulate shifted with-part stretches writable slot-of first
+tables-alike = refl
+
+pub logics-alike : tabulate 2 0 (λ x. shifted (x * (slot-of 0x4201 1 - slot-of 0x4101 1)) x (x * 256) (with-part 256 0x41 stretches)) ≡ tabulate 2 0 (λ x. with-part 256 (0x41 + x) stretches)
+unfolding tabulate shifted with-part stretches writable slot-of first
+logics-alike = refl
+
+pub maths-alike : tabulate 4 0 (λ x. shifted (x * (slot-of 0x4700 1 - slot-of 0x4600 1)) x (x * 256) (with-part 256 0x46 stretches)) ≡ tabulate 4 0 (λ x. with-part 256 (0x46 + x) stretches)
+unfolding tabulate shifted with-part stretches writable slot-of first
+maths-alike = refl

@@ -1,3 +1,4 @@
 pub mod Families
 pub mod NameLaws
+pub mod Sieve
 pub mod Tabulate

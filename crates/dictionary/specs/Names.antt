@@ -43,7 +43,7 @@ unfoldable pub entries : List Entry
 unfolding rows entries-of entries-from condition axis-or-response operator
 entries = flatMap entries-of rows
 
--- the slots below the first number are the configuration, those below the second can be written
+-- the slots below the first number are the configuration, those below the second can be written, those below the third can be read
 unfoldable pub configured : ℕ
 unfolding configuration tables logics conditions maths received flatMap entries-of entries-from
 configured = length (flatMap entries-of configuration)
@@ -51,6 +51,10 @@ configured = length (flatMap entries-of configuration)
 unfoldable pub writable : ℕ
 unfolding configured
 writable = configured + length (flatMap entries-of received)
+
+unfoldable pub words : ℕ
+unfolding entries
+words = length entries
 
 -- the bytes of data of some entries
 unfoldable pub bytes-of : List Entry → ℕ

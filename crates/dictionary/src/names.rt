@@ -5,9 +5,11 @@ ghost use Rattle.dictionary.specs.Names.{find, named};
 ghost use Rattle.dictionary.specs.Objects.{meant};
 use super::objects::Object;
 use super::objects::rows_of;
+use super::slots::CONSTANT;
+use super::slots::FIXED;
 use super::types::Found;
 
-fn in_var(slot: u16, sub: u8) -> Found
+fn in_var(slot: usize, sub: u8) -> Found
     ensures { λ r. ⌜ r ≡ named (meant (Object.Var slot) 0) sub ⌝ }
 {
     if sub == 0 {
@@ -16,7 +18,7 @@ fn in_var(slot: u16, sub: u8) -> Found
     Found::NoSub
 }
 
-fn in_array(slot: u16, last: u8, sub: u8) -> Found
+fn in_array(slot: usize, last: u8, sub: u8) -> Found
     requires { ⌜ (slot < 1000) × (0 < last) ⌝ }
     ensures { λ r. ⌜ r ≡ named (meant (Object.Array slot last) 0) sub ⌝ }
 {
@@ -24,7 +26,7 @@ fn in_array(slot: u16, last: u8, sub: u8) -> Found
         return Found::Count(last);
     }
     if sub <= last {
-        return Found::At(slot + (sub as u16 - 1));
+        return Found::At(slot + (sub as usize - 1));
     }
     Found::NoSub
 }
@@ -36,10 +38,10 @@ fn in_constants(sub: u8) -> Found
         return Found::Count(15);
     }
     if sub < 3 {
-        return Found::At(650 + (sub as u16 - 1));
+        return Found::At(FIXED + (sub as usize - 1));
     }
     if sub <= 15 {
-        return Found::At(542 + (sub as u16 - 3));
+        return Found::At(CONSTANT + (sub as usize - 3));
     }
     Found::NoSub
 }

@@ -1,5 +1,7 @@
 // Where each object's words begin in a unit: the configuration ascending by index then sub, the EC values, what can only be read,
 // and behind these what ticks remember and nobody can read. A place is given once, here, as a sum of what comes before it.
+ghost use mathlib.Core.Path.{_≡_};
+ghost use Rattle.dictionary.specs.Unit.{places};
 
 // 2110h, 2111h, 2112h :1-4
 pub const DETECT: usize = 0;
@@ -52,6 +54,8 @@ pub const TABLE_RESPONSE: usize = TABLE_Y_DIGITS + 1;
 
 pub const TABLE_X: usize = TABLE_RESPONSE + 11;
 
+pub const TABLE_LAST_X: usize = TABLE_X + 10;
+
 pub const TABLE_Y: usize = TABLE_X + 11;
 
 pub const TABLE_ENTRIES: usize = TABLE_Y + 11 - TABLE_SOURCE;
@@ -63,6 +67,8 @@ pub const LOGIC_ENABLE: usize = TABLE_SOURCE + 6 * TABLE_ENTRIES;
 pub const LOGIC_TABLE: usize = LOGIC_ENABLE + 2;
 
 pub const LOGIC_OPERATOR: usize = LOGIC_TABLE + 3;
+
+pub const LOGIC_LAST_OPERATOR: usize = LOGIC_OPERATOR + 2;
 
 pub const CONDITION: usize = LOGIC_OPERATOR + 3;
 
@@ -164,3 +170,87 @@ pub const UNIT: usize = FLAGS + 4;
 
 // The whole unit.
 pub type Unit = [u32; UNIT];
+
+// The places are the table's slots.
+fn places() -> [usize; 76]
+    ensures { λ r. ⌜ r ≡ places ⌝ }
+{
+    [
+        DETECT,
+        HYSTERESIS,
+        DELAY,
+        OVERRIDE_FV,
+        RAMP_UP,
+        RAMP_DOWN,
+        CONTROL_SOURCE,
+        CONTROL_NUMBER,
+        ENABLE_SOURCE,
+        ENABLE_NUMBER,
+        ENABLE_RESPONSE,
+        OVERRIDE_SOURCE,
+        OVERRIDE_NUMBER,
+        OVERRIDE_RESPONSE,
+        EC_DIGITS,
+        EC_FROM,
+        EC_TO,
+        TABLE_SOURCE,
+        TABLE_NUMBER,
+        TABLE_X_DIGITS,
+        TABLE_Y_DIGITS,
+        TABLE_RESPONSE,
+        TABLE_X,
+        TABLE_LAST_X,
+        TABLE_Y,
+        LOGIC_ENABLE,
+        LOGIC_TABLE,
+        LOGIC_OPERATOR,
+        LOGIC_LAST_OPERATOR,
+        CONDITION,
+        MATH_ENABLE,
+        MATH_FROM,
+        MATH_TO,
+        MATH_DIGITS,
+        OPERAND_SOURCE,
+        OPERAND_NUMBER,
+        OPERAND_DIGITS,
+        OPERAND_FROM,
+        OPERAND_TO,
+        OPERAND_GAIN,
+        MATH_OPERATOR,
+        CONSTANT,
+        INPUT_DIGITS,
+        OUTPUT_DIGITS,
+        FAULT_MODE,
+        INPUT_FV1,
+        INPUT_PV1,
+        INPUT_FV2,
+        INPUT_PV2,
+        SPAN_START,
+        SPAN_END,
+        OUTPUT_PV1,
+        OUTPUT_FV1,
+        OUTPUT_PV2,
+        OUTPUT_FV2,
+        FAULT_FV,
+        EC_VALUE,
+        ERROR_REGISTER,
+        SAMPLE,
+        INPUT_PV,
+        TABLE_VALUE,
+        LOGIC_SELECTED,
+        LOGIC_VALUE,
+        MATH_VALUE,
+        COMMAND,
+        FIXED,
+        SIGNALS,
+        RUNS,
+        FLAGS,
+        UNIT,
+        TABLE_ENTRIES,
+        LOGIC_ENTRIES,
+        MATH_ENTRIES,
+        EC_VALUE,
+        ERROR_REGISTER,
+        SIGNALS,
+    ]
+}

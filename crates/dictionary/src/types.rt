@@ -19,5 +19,5 @@ pub enum Found {
     NoIndex,
     NoSub,
     Count(u8),
-    At(u16),
+    At(usize),
 }

@@ -1,6 +1,6 @@
 -- What the parts of a judgement come to.
 -- Assumes nothing.
-use mathlib.Core.Path.{_≡_, refl, sym, ap, _∙_}
+use mathlib.Core.Path.{_≡_, sym, ap, _∙_}
 use mathlib.Core.Bool.{Bool, true, false, not}
 use mathlib.Core.List.{List}
 use Prim.Native.Nat.{ℕ}
@@ -14,25 +14,29 @@ use Rattle.numbers.specs.Choice.{first}
 use Rattle.numbers.specs.Order.{below}
 use Rattle.numbers.specs.Signed.{signed16}
 use Rattle.entries.specs.Chains.{upper-of, lower-of}
-use Rattle.entries.specs.Values.{range-of}
+use Rattle.entries.specs.Roles.{Holding, ranged, said, holding, Told}
 use Rattle.entries.specs.Judge.{finite, number-of, within, in-range, held, past-upper, past-lower, in-order, before, judged}
+use Rattle.dictionary.specs.declared.types.Kind.{Kind}
 use Rattle.dictionary.specs.declared.types.Range.{Range}
 use Rattle.entries.specs.declared.types.Link.{Link}
-use Rattle.entries.specs.declared.types.Link.the-variants.{Free, Loose, Strict}
+use Rattle.entries.specs.declared.types.Link.the-variants.{Loose, Strict}
 use Rattle.entries.specs.declared.types.Verdict.{Verdict}
 use Rattle.entries.specs.declared.types.Verdict.the-variants.{Good, NotFinite, Above, Below, ChainUp, ChainDown}
 
 -- ---- the range
 
-module _ (range : Range) (word : ℕ) (f : Bool) (e : f ≡ finite (range .kind) word) where
-  pub is-number : f ≡ true → (v : ℤ) → v ≡ number-of (range .kind) word → SFits w32 v → SFits w32 (range .low) → SFits w32 (range .high)
-      → within (toZ w32 (ofZ w32 v)) (toZ w32 (ofZ w32 (range .low))) (toZ w32 (ofZ w32 (range .high))) ≡ in-range range word
+module _ (range : Range) (word : ℕ) (kind : Kind) (k : kind ≡ range .kind) (f : Bool) (e : f ≡ finite kind word) where
+  is-finite : f ≡ finite (range .kind) word
+  is-finite = e ∙ ap (λ (x : Kind). finite x word) k
+
+  pub is-number : f ≡ true → (v low high : ℤ) → v ≡ number-of kind word → SFits w32 v → low ≡ range .low → SFits w32 low → high ≡ range .high → SFits w32 high
+      → within (toZ w32 (ofZ w32 v)) (toZ w32 (ofZ w32 low)) (toZ w32 (ofZ w32 high)) ≡ in-range range word
   unfolding in-range first
-  is-number t v n fv fl fh = rw (← e, t, toZ-ofZ fv, toZ-ofZ fl, toZ-ofZ fh, n)
+  is-number t v low high n fv l fl h fh = rw (← is-finite, t, toZ-ofZ fv, toZ-ofZ fl, toZ-ofZ fh, n, k, l, h)
 
   pub is-no-number : f ≡ false → NotFinite ≡ in-range range word
   unfolding in-range first
-  is-no-number t = rw (← e, t)
+  is-no-number t = rw (← is-finite, t)
 
 -- ---- the chain: a neighbour's word, its number r, and the comparison that the code makes
 
@@ -79,8 +83,8 @@ module _ (words : List ℕ) (slot word : ℕ) (v : ℤ) (is : v ≡ signed16 wor
 
 -- ---- both: the range's verdict v decides unless it is Good
 
-pub by-own : (words : List ℕ) (slot word : ℕ) (range : Range) (own v : Verdict) → range ≡ range-of slot → own ≡ in-range range word → own ≡ v
+pub by-own : (words : List ℕ) {role : ℕ} (slot word : ℕ) (own v : Verdict) → Told role slot → own ≡ in-range (ranged role) word → own ≡ v
     → before v (in-order words slot word) ≡ judged words slot word
-unfolding judged
-by-own words slot word range own v r o e =
-    ap (λ (x : Verdict). before x (in-order words slot word)) (sym e ∙ o ∙ ap (λ (x : Range). in-range x word) r)
+unfolding judged said holding
+by-own words slot word own v t o e =
+    ap (λ (x : Verdict). before x (in-order words slot word)) (sym e ∙ o ∙ ap (λ (h : Holding). in-range (h .range) word) (t .holds))

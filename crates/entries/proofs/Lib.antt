@@ -1,4 +1,3 @@
-pub mod ClassLaws
 pub mod JudgeLaws
-pub mod LinkLaws
-pub mod StartLaws
+pub mod KeyLaws
+pub mod RoleLaws

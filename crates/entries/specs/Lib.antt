@@ -1,5 +1,5 @@
 pub mod Chains
-pub mod Classes
 pub mod Judge
+pub mod Roles
 pub mod Valid
 pub mod Values

@@ -1,15 +1,18 @@
 // Judging one value for one entry: finite, in its own range, in order with its chain.
 ghost use mathlib.Core.Path.{_≡_};
+ghost use lib.ListN.{getD};
 ghost use Rattle.entries.specs.Judge.{number-of, finite, within, in-range, past-upper, past-lower, in-order, judged};
-ghost use Rattle.numbers.specs.Signed.{signed16};
+ghost use Rattle.entries.specs.Roles.{ranged, Told};
 use super::chains::lower;
 use super::chains::upper;
-use super::ranges::range;
+use super::limits::high_of;
+use super::limits::kind_of;
+use super::limits::low_of;
+use super::roles::WHOLE;
+use super::roles::role_of;
 use super::types::Link;
 use super::types::Verdict;
-use super::words::fetch;
 use dictionary::types::Kind;
-use dictionary::types::Range;
 use numbers::signed::signed;
 
 fn number(kind: Kind, word: u32) -> i32
@@ -46,14 +49,28 @@ fn judge_number(v: i32, low: i32, high: i32) -> Verdict
     Verdict::Good
 }
 
-fn judge_range(range: Range, word: u32) -> Verdict
-    ensures { λ r. ⌜ r ≡ in-range range word ⌝ }
+fn judge_range(role: u8, word: u32) -> Verdict
+    ensures { λ r. ⌜ r ≡ in-range (ranged role) word ⌝ }
 {
-    let kind = range.kind;
+    // the whole range of INTEGER16
+    if WHOLE <= role {
+        return Verdict::Good;
+    }
+    let kind = kind_of(role);
     if is_finite(kind, word) {
-        return judge_number(number(kind, word), range.low, range.high);
+        return judge_number(number(kind, word), low_of(role), high_of(role));
     }
     Verdict::NotFinite
+}
+
+// A slot past the last reads 0.
+fn fetch(words: &[u32], slot: usize) -> u32
+    ensures { λ r. ⌜ r ≡ getD (now (words .entry)) slot 0 ⌝ }
+{
+    if slot < words.len() {
+        return words[slot];
+    }
+    0
 }
 
 // Whether a value is past its upper neighbour's.
@@ -78,26 +95,28 @@ fn under(words: &[u32], link: Link, v: i16) -> bool
     }
 }
 
-fn judge_chain(words: &[u32], slot: u16, word: u32) -> Verdict
+fn judge_chain(words: &[u32], role: u8, slot: usize, word: u32) -> Verdict
+    requires { ⌜ Told role slot ⌝ }
     ensures { λ r. ⌜ r ≡ in-order (now (words .entry)) slot word ⌝ }
 {
     let v = signed(word);
-    if over(words, upper(slot), v) {
+    if over(words, upper(role, slot), v) {
         return Verdict::ChainUp;
     }
-    if under(words, lower(slot), v) {
+    if under(words, lower(role, slot), v) {
         return Verdict::ChainDown;
     }
     Verdict::Good
 }
 
 // Any words, any slot, any word.
-pub fn judge(words: &[u32], slot: u16, word: u32) -> Verdict
+pub fn judge(words: &[u32], slot: usize, word: u32) -> Verdict
     ensures { λ r. ⌜ r ≡ judged (now (words .entry)) slot word ⌝ }
 {
-    let own = judge_range(range(slot), word);
+    let role = role_of(slot);
+    let own = judge_range(role, word);
     match own {
-        Verdict::Good => judge_chain(words, slot, word),
+        Verdict::Good => judge_chain(words, role, slot, word),
         Verdict::NotFinite => Verdict::NotFinite,
         Verdict::Above => Verdict::Above,
         Verdict::Below => Verdict::Below,

@@ -1,8 +1,7 @@
-// What the dictionary's entries hold: type and range, chain, the value at start; and judging a value that is offered.
+// What the dictionary's entries hold: type and range, chain; and judging a value that is offered.
 mod chains;
-mod classes;
 pub mod judging;
+mod limits;
 pub mod ranges;
-pub mod start;
+mod roles;
 pub mod types;
-pub mod words;

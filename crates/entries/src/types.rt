@@ -3,8 +3,8 @@
 // The neighbour in a chain: none, or the slot that must not be passed, or not even be reached.
 pub enum Link {
     Free,
-    Loose(u16),
-    Strict(u16),
+    Loose(usize),
+    Strict(usize),
 }
 
 // What may be said of a value that is offered to an entry.

@@ -10,6 +10,7 @@ use lib.IntN.{ℤ, pos, _+ℤ_, _-ℤ_, _*ℤ_, *ℤ-comm}
 use lib.Signed.{_≤ℤ_, _<ℤ_, ≤ℤ-refl}
 use Rattle.numbers.specs.Choice.{first}
 use Rattle.numbers.specs.Order.{below}
+use Rattle.numbers.specs.Limit.{limitWhole}
 use Rattle.numbers.specs.Line.{nearest, between, lineAt}
 use Rattle.numbers.proofs.Differences.{Diff, same, plus, less, times, parts, plus-part, minus-part, natural, above, not-above, is-below, is-not-below, at-most, told-most}
 use Rattle.numbers.proofs.Orders.{lt-is-below, le-is-not-below}
@@ -170,3 +171,31 @@ module _ (x1 y1 x2 y2 : ℤ) where
       by true e true f true k =
           rw (inner x e f, inner x′ (farther-than x x′ q e) k)
           (rising y1 y2 (far x1 x2) (far-above x1 x2 (wide x e f)) o (farther x1 x x′ q))
+
+  -- ---- at an x limited to its points it is what it is at x, but for points in the wrong order: then it is the first y
+  pub limited-kept : below x1 x2 ≡ true → (x : ℤ) → lineAt x1 y1 x2 y2 (limitWhole x x1 x2) ≡ lineAt x1 y1 x2 y2 x
+  unfolding limitWhole first
+  limited-kept o x = by (below x x1) refl (below x2 x) refl
+    where
+      by : (s : Bool) → below x x1 ≡ s → (t : Bool) → below x2 x ≡ t → lineAt x1 y1 x2 y2 (first s x1 (first t x2 x)) ≡ lineAt x1 y1 x2 y2 x
+      by true e t f =
+          let l = above (parts x) (parts x1) e in
+          meets-first ∙ sym (at-first x (is-not-below (parts x1) (parts x) (omega arith)))
+      by false e true f =
+          let l = above (parts x2) (parts x) f in
+          let m = above (parts x1) (parts x2) o in
+          at-second x2 o (is-not-below (parts x2) (parts x2) (omega arith))
+          ∙ sym (at-second x (is-below (parts x1) (parts x) (omega arith)) (is-not-below (parts x) (parts x2) (omega arith)))
+      by false e false f = refl
+
+  pub limited-crossed : below x1 x2 ≡ false → (x : ℤ) → lineAt x1 y1 x2 y2 (limitWhole x x1 x2) ≡ y1
+  unfolding limitWhole first
+  limited-crossed o x = by (below x x1) refl (below x2 x) refl
+    where
+      by : (s : Bool) → below x x1 ≡ s → (t : Bool) → below x2 x ≡ t → lineAt x1 y1 x2 y2 (first s x1 (first t x2 x)) ≡ y1
+      by true e t f = meets-first
+      by false e true f = at-first x2 o
+      by false e false f =
+          let l = not-above (parts x1) (parts x2) o in
+          let m = not-above (parts x2) (parts x) f in
+          at-first x (is-not-below (parts x1) (parts x) (omega arith))

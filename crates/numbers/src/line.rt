@@ -2,6 +2,7 @@
 ghost use mathlib.Core.Path.{_≡_};
 ghost use Prim.Native.Nat.{_<_, _≤_, _+_, _-_, _*_};
 ghost use lib.IntN.{pos, _-ℤ_};
+ghost use Rattle.numbers.specs.Limit.{limitWhole};
 ghost use Rattle.numbers.specs.Line.{nearest, lineAt};
 use crate::count::lower;
 use crate::count::raise;
@@ -43,4 +44,14 @@ pub fn line(a: Point, b: Point, x: i16) -> i16
     let t = raise(x) - start;
     let d = raise(b.x) - start;
     lower(weighed(t, d, raise(a.y), raise(b.y)))
+}
+
+// The line at x limited to the points: it is limited of itself, but for ends in the wrong order.
+pub fn limited(a: Point, b: Point, x: i16) -> i16
+    ensures { λ r. ⌜ r ≡ lineAt (a .x) (a .y) (b .x) (b .y) (limitWhole x (a .x) (b .x)) ⌝ }
+{
+    if b.x <= a.x {
+        return a.y;
+    }
+    line(a, b, x)
 }

@@ -1,6 +1,6 @@
-// INTEGER16 from the low 16 bits of a word.
+// INTEGER16 and the 16-bit pattern that stands for it in a word.
 ghost use mathlib.Core.Path.{_≡_};
-ghost use Rattle.numbers.specs.Signed.{signed16};
+ghost use Rattle.numbers.specs.Signed.{signed16, pattern16};
 use crate::count::lower;
 
 // The upper half of the patterns counts from -32768.
@@ -12,4 +12,10 @@ pub fn signed(word: u32) -> i16
         return low as i16;
     }
     lower(low - 0x8000)
+}
+
+pub fn pattern(v: i16) -> u32
+    ensures { λ r. ⌜ r ≡ pattern16 v ⌝ }
+{
+    (v as i32 + 0x1_0000) as u32 % 0x1_0000
 }

@@ -1,14 +1,3 @@
-pub mod Answers
-pub mod Cutting
-pub mod Decimals
-pub mod Every
 pub mod Examples
-pub mod Fields
-pub mod Hexes
-pub mod Lengths
-pub mod Lines
-pub mod Places
 pub mod Replies
 pub mod RoundTrip
-pub mod Signs
-pub mod Stores

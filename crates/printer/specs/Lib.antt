@@ -1,4 +1,1 @@
 pub mod Answering
-pub mod Printing
-pub mod Reading
-pub mod Steps

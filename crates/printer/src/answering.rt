@@ -1,34 +1,30 @@
-// What a line of the session does to the state, and what it prints.
+// What a line of the session does to the unit, and what it prints.
 ghost use mathlib.Core.Path.{_≡_};
 ghost use Rattle.sdo.specs.Served.{after};
-ghost use Rattle.controller.specs.Sources.{state};
-ghost use Rattle.printer.specs.Printing.{Printed};
+ghost use Rattle.answers.specs.Printing.{Printed};
 ghost use Rattle.printer.specs.Answering.{decided, shown, stateLine, sampled, said, Answers};
-use crate::printing::show_reply;
-use crate::printing::show_silent;
-use crate::printing::show_tick;
-use crate::printing::show_unknown;
-use crate::reading::Verb;
-use crate::reading::read;
-use controller::state::Live;
+use answers::printing::show_reply;
+use answers::printing::show_silent;
+use answers::printing::show_tick;
+use answers::printing::show_unknown;
 use controller::tick::tick;
-use numbers::signed::signed;
+use dictionary::slots::COMMAND;
+use dictionary::slots::ERROR_REGISTER;
+use dictionary::slots::Unit;
+use lines::reading::Verb;
+use lines::reading::read;
 use sdo::serving::serve;
 use sdo::types::Answer;
-
-// What ticks remember after the line, and how many bytes are printed.
-pub struct Answered {
-    pub live: Live,
-    pub count: usize,
-}
+use unit::words::byte_at;
+use unit::words::whole_at;
 
 // The reply, or -.
-fn serve_frame(words: &mut [u32; 652], frame: &[u8], out: &mut [u8; 64]) -> usize
-    ensures state { λ r. ⌜ now (words .exit) ≡ after (now (words .entry)) (decided (now (words .entry)) (now (frame .entry))) ⌝ }
-    ensures print { λ r. ⌜ Printed (shown (now (frame .entry)) (decided (now (words .entry)) (now (frame .entry)))) (now (out .entry)) (now (out .exit)) r ⌝ }
+fn serve_frame(unit: &mut Unit, frame: &[u8], out: &mut [u8; 64]) -> usize
+    ensures state { λ r. ⌜ now (unit .exit) ≡ after (now (unit .entry)) (decided (now (unit .entry)) (now (frame .entry))) ⌝ }
+    ensures print { λ r. ⌜ Printed (shown (now (frame .entry)) (decided (now (unit .entry)) (now (frame .entry)))) (now (out .entry)) (now (out .exit)) r ⌝ }
 {
     let mut reply = [0u8; 8];
-    let answer = serve(words, frame, &mut reply);
+    let answer = serve(unit, frame, &mut reply);
     match answer {
         Answer::Silent => show_silent(out),
         Answer::Aborted(_) => show_reply(&reply, out),
@@ -38,43 +34,36 @@ fn serve_frame(words: &mut [u32; 652], frame: &[u8], out: &mut [u8; 64]) -> usiz
 }
 
 // The four commands 7330h:1-4 and the register 1001h.
-fn show_state(words: &[u32; 652], out: &mut [u8; 64]) -> usize
-    ensures { λ r. ⌜ Printed (stateLine (now (words .entry))) (now (out .entry)) (now (out .exit)) r ⌝ }
+fn show_state(unit: &Unit, out: &mut [u8; 64]) -> usize
+    ensures { λ r. ⌜ Printed (stateLine (now (unit .entry))) (now (out .entry)) (now (out .exit)) r ⌝ }
 {
-    let one = signed(words[646]);
-    let two = signed(words[647]);
-    let three = signed(words[648]);
-    let four = signed(words[649]);
-    let register = (words[623] % 0x100) as u8;
+    let one = whole_at(unit, COMMAND);
+    let two = whole_at(unit, COMMAND + 1);
+    let three = whole_at(unit, COMMAND + 2);
+    let four = whole_at(unit, COMMAND + 3);
+    let register = byte_at(unit, ERROR_REGISTER);
     show_tick([one, two, three, four], register, out)
 }
 
 // The state is shown as the tick leaves it.
-fn take_tick(words: &mut [u32; 652], live: Live, samples: [i16; 4], out: &mut [u8; 64]) -> Answered
-    ensures { λ r. ⌜ Answers (sampled samples (state (now (words .entry)) live)) (now (words .exit)) (r .live) (now (out .entry)) (now (out .exit)) (r .count) ⌝ }
+fn take_tick(unit: &mut Unit, samples: [i16; 4], out: &mut [u8; 64]) -> usize
+    ensures { λ r. ⌜ Answers (sampled samples (now (unit .entry))) (now (unit .exit)) (now (out .entry)) (now (out .exit)) r ⌝ }
 {
-    let after = tick(words, live, samples);
-    let count = show_state(words, out);
-    Answered { live: after, count }
+    tick(unit, samples);
+    show_state(unit, out)
 }
 
 // A line comes without its line end, and may be anything.
-pub fn answer(words: &mut [u32; 652], live: Live, line: &[u8], out: &mut [u8; 64]) -> Answered
-    ensures { λ r. ⌜ Answers (said (now (line .entry)) (state (now (words .entry)) live)) (now (words .exit)) (r .live) (now (out .entry)) (now (out .exit)) (r .count) ⌝ }
+pub fn answer(unit: &mut Unit, line: &[u8], out: &mut [u8; 64]) -> usize
+    ensures { λ r. ⌜ Answers (said (now (line .entry)) (now (unit .entry))) (now (unit .exit)) (now (out .entry)) (now (out .exit)) r ⌝ }
 {
     let request = read(line);
     let verb = request.verb;
     let frame = request.frame;
     let samples = request.samples;
     match verb {
-        Verb::Frame => {
-            let count = serve_frame(words, &frame, out);
-            Answered { live, count }
-        }
-        Verb::Tick => take_tick(words, live, samples, out),
-        Verb::Unknown => {
-            let count = show_unknown(out);
-            Answered { live, count }
-        }
+        Verb::Frame => serve_frame(unit, &frame, out),
+        Verb::Tick => take_tick(unit, samples, out),
+        Verb::Unknown => show_unknown(out),
     }
 }

@@ -1,4 +1,2 @@
-// The session printer: what a line asks for, how an answer is printed, and what a line does to the state.
+// The session printer: what a line does to the unit, and what it prints.
 pub mod answering;
-pub mod printing;
-pub mod reading;

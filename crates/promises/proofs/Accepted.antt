@@ -12,7 +12,6 @@ use Rattle.numbers.specs.Choice.{first}
 use Rattle.dictionary.specs.Names.{find, writable}
 use Rattle.dictionary.specs.declared.types.Found.{Found}
 use Rattle.dictionary.specs.declared.types.Found.the-variants as found
-use Rattle.dictionary.proofs.NameLaws.{counted}
 use Rattle.entries.specs.Judge.{judged}
 use Rattle.entries.specs.declared.types.Verdict.{Verdict}
 use Rattle.entries.specs.declared.types.Verdict.the-variants as verdict
@@ -31,7 +30,7 @@ pub record Accepted (words frame : List ℕ) (slot word : ℕ) : Type 0 where
   pub eight : length frame ≡ 8
   pub commanded : command-of (getD frame 0 0) ≡ Write size
   pub found : find (index-in frame) (sub-in frame) ≡ found.At slot
-  pub below : slot < 623
+  pub below : slot < writable
   pub fits : size-of slot ≡ size
   pub holds : word ≡ data-in size frame
   pub good : judged words slot word ≡ verdict.Good
@@ -80,13 +79,12 @@ module _ (words frame : List ℕ) (room slot word : ℕ) where
         let same : s ≡ slot = kept .1 in
         let data-is : data-in size frame ≡ word = kept .2 in
         let own-size : size-of s ≡ size = omega arith in
-        let in-bound : s < 623 = rw (counted .1) at l in
         record {
           size = size;
           eight = eight;
           commanded = c;
           found = f ∙ ap found.At same;
-          below = rw same at in-bound;
+          below = rw same at l;
           fits = rw same at own-size;
           holds = sym data-is;
           good = ap (λ (w : ℕ). judged words slot w) (sym data-is) ∙ ap (λ (s : ℕ). judged words s (data-in size frame)) (sym same) ∙ kept .0;

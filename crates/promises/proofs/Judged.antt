@@ -42,7 +42,7 @@ fitting words slot word e =
     let neither = past-neither (past-upper words (upper-of slot) (signed16 word)) (past-lower words (lower-of slot) (signed16 word)) (both .1) in
     record { inside = both .0; upward = neither .0; downward = neither .1 }
 
-module _ (words other : List ℕ) (same : (k : ℕ) → k < 611 → getD words k 0 ≡ getD other k 0) (slot word : ℕ) (h : slot < configured) where
+module _ (words other : List ℕ) (same : (k : ℕ) → k < configured → getD words k 0 ≡ getD other k 0) (slot word : ℕ) (h : slot < configured) where
   near-same : (u : ℕ) → another slot u ≡ true → getD words u 0 ≡ getD other u 0
   near-same u e = same u (is-another slot u e .0)
 

@@ -1,4 +1,4 @@
--- The neighbours of the configuration's slots: other slots of the configuration, each the other's; computed for all 611.
+-- The neighbours of the configuration's slots: other slots of the configuration, each the other's; computed for all of them.
 -- Assumes nothing.
 use mathlib.Core.Path.{_≡_, refl, ap}
 use mathlib.Core.Bool.{Bool, true, not, _&&_, and-eq-true-iff}
@@ -27,23 +27,23 @@ near p (Strict u) = p u
 
 -- another slot of the configuration
 unfoldable pub another : ℕ → ℕ → Bool
-another slot u = ltb u 611 && not (eqb u slot)
+another slot u = ltb u configured && not (eqb u slot)
 
-pub is-another : (slot u : ℕ) → another slot u ≡ true → (u < 611) × (u ≡ slot → ⊥)
+pub is-another : (slot u : ℕ) → another slot u ≡ true → (u < configured) × (u ≡ slot → ⊥)
 unfolding another
 is-another slot u e =
-    let both = and-eq-true-iff (ltb u 611) (not (eqb u slot)) .0 e in
-    (ltb-true u 611 (both .0), eqb-false u slot (not-true (eqb u slot) (both .1)))
+    let both = and-eq-true-iff (ltb u configured) (not (eqb u slot)) .0 e in
+    (ltb-true u configured (both .0), eqb-false u slot (not-true (eqb u slot) (both .1)))
 
-uppers-computed : tabulate 611 0 (λ slot. near (another slot) (upper-of slot)) ≡ tabulate 611 0 (λ slot. true)
-unfolding tabulate near another chains upper-of upper-in first
+uppers-computed : tabulate configured 0 (λ slot. near (another slot) (upper-of slot)) ≡ tabulate configured 0 (λ slot. true)
+unfolding tabulate configured near another chains upper-of upper-in first
 uppers-computed = refl
 
 pub upper-another : (slot : ℕ) → slot < configured → near (another slot) (upper-of slot) ≡ true
 upper-another = at-each (λ slot. near (another slot) (upper-of slot)) (λ slot. true) uppers-computed
 
-lowers-computed : tabulate 611 0 (λ slot. near (another slot) (lower-of slot)) ≡ tabulate 611 0 (λ slot. true)
-unfolding tabulate near another chains lower-of lower-in first
+lowers-computed : tabulate configured 0 (λ slot. near (another slot) (lower-of slot)) ≡ tabulate configured 0 (λ slot. true)
+unfolding tabulate configured near another chains lower-of lower-in first
 lowers-computed = refl
 
 pub lower-another : (slot : ℕ) → slot < configured → near (another slot) (lower-of slot) ≡ true
@@ -60,8 +60,8 @@ turned slot Free = Free
 turned slot (Loose u) = Loose slot
 turned slot (Strict u) = Strict slot
 
-backs-computed : tabulate 611 0 (λ slot. back-down (upper-of slot)) ≡ tabulate 611 0 (λ slot. turned slot (upper-of slot))
-unfolding tabulate back-down turned chains upper-of upper-in lower-of lower-in first
+backs-computed : tabulate configured 0 (λ slot. back-down (upper-of slot)) ≡ tabulate configured 0 (λ slot. turned slot (upper-of slot))
+unfolding tabulate configured back-down turned chains upper-of upper-in lower-of lower-in first
 backs-computed = refl
 
 pub both-ways : (slot : ℕ) → slot < configured → back-down (upper-of slot) ≡ turned slot (upper-of slot)

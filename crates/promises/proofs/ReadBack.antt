@@ -9,6 +9,7 @@ use lib.Seq.{length-take-le}
 use Rattle.numbers.specs.Choice.{first}
 use Rattle.dictionary.specs.Names.{find}
 use Rattle.dictionary.specs.declared.types.Found.the-variants.{At}
+use Rattle.dictionary.specs.Unit.{unit-size}
 use Rattle.entries.specs.Values.{range-of}
 use Rattle.sdo.specs.Answers.{size-of, reading, obeyed, answer}
 use Rattle.sdo.specs.Frames.{bytes, index-in, sub-in, name-in, data-in, command-of, read-command, cut, reply, reply-to}
@@ -33,7 +34,7 @@ module _ (words frame : List ℕ) (slot word : ℕ) (a : Accepted words frame sl
       ∙ given-back 4 (take (a .size) (drop 4 frame)) (bytes-to (a .size) (drop 4 frame) (bytes-from 4 frame b)) (omega arith)
       ∙ ap (λ (n : ℕ). take (a .size) (drop 4 frame) ++ replicate (4 - n) 0) long
 
-  module _ (l : length words ≡ 652) (query : List ℕ) (eight : length query ≡ 8) (c : getD query 0 0 ≡ 0x40) (n : name-in query ≡ name-in frame) where
+  module _ (l : length words ≡ unit-size) (query : List ℕ) (eight : length query ≡ 8) (c : getD query 0 0 ≡ 0x40) (n : name-in query ≡ name-in frame) where
     same-name : find (index-in query) (sub-in query) ≡ At slot
     unfolding index-in sub-in name-in
     same-name = ap (λ (m : List ℕ). find (getD m 0 0 + 256 * getD m 1 0) (getD m 2 0)) n ∙ a .found

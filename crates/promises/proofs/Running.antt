@@ -1,45 +1,42 @@
 -- The promises of a controller that runs.
 -- Assumes nothing.
 use mathlib.Core.Path.{_≡_, refl, sym, ap, _∙_, subst}
+use mathlib.Core.Bool.{Bool}
 use mathlib.Core.List.{List, [], _∷_}
 use Prim.Native.Nat.{ℕ, _^_, _<_}
-use native.Mathlib.Omega.{arith}
 use lib.IntN.{ℤ}
 use lib.ListN.{length, getD, length-set}
-use lib.Seq.{getD-set-other}
 use Rattle.numbers.specs.Choice.{first}
 use Rattle.numbers.specs.Signed.{signed16}
-use Rattle.dictionary.specs.Names.{configured, slot-of}
+use Rattle.dictionary.specs.Names.{configured, words, slot-of}
 use Rattle.dictionary.specs.Rows.{width}
-use Rattle.dictionary.proofs.NameLaws.{counted}
+use Rattle.dictionary.specs.Unit.{signals-at, runs-at, flags-at, unit-size}
 use Rattle.entries.specs.Chains.{upper-of}
 use Rattle.entries.specs.Judge.{held, past-upper, in-range}
 use Rattle.entries.specs.Valid.{Valid}
-use Rattle.entries.specs.Values.{starts, range-of}
-use Rattle.entries.proofs.StartLaws.{starts-length}
+use Rattle.entries.specs.Values.{range-of, starts, at-start}
 use Rattle.sdo.specs.Answers.{answer}
 use Rattle.sdo.specs.Served.{Served, after}
 use Rattle.sdo.specs.declared.types.Answer.{Answer}
 use Rattle.sdo.specs.declared.types.Answer.the-variants.{Silent, Aborted, Value, Written}
-use Rattle.controller.specs.Entry.{entry}
-use Rattle.controller.specs.Inputs.{memory}
-use Rattle.controller.specs.Sources.{State, state}
-use Rattle.controller.specs.Tick.{fresh, anyFlagged, ticked}
+use Rattle.unit.specs.Entry.{entry}
+use Rattle.ports.specs.Inputs.{memory}
+use Rattle.controller.specs.Tick.{anyFlagged, ticked}
 use Rattle.controller.proofs.TickLaws as Tick
-use Rattle.promises.specs.Running.{Event, frame, tick, happens, run, at-start, Did, Ran, Only-the-fold, Made-of-bytes, Sound, Always-sound}
+use Rattle.promises.specs.Running.{Event, frame, tick, happens, run, Did, Ran, Only-the-fold, Made-of-bytes, Sound, Always-sound}
 use Rattle.promises.specs.Serving.{Bytes}
 use Rattle.promises.proofs.Accepted.{accepted}
+use Rattle.promises.proofs.Configuration.{can-be-written}
 use Rattle.promises.proofs.Neighbours.{upper-another, is-another, another, upper-same}
 use Rattle.promises.proofs.Serving.{stays-valid}
 use Rattle.promises.proofs.Start.{valid-at-start}
 
 -- ---- one event is what the definitions make of it
 
-did : (e : Event) (s t : State) → Did e s t → t ≡ happens e s
+did : (e : Event) (s t : List ℕ) → Did e s t → t ≡ happens e s
 unfolding happens
-did (frame f) s t (Did.by-frame words′ reply reply′ r eight d) =
-    ap (λ (w : List ℕ). state w (s .live)) (d .state ∙ ap (after (s .words)) (d .answered ∙ ap (answer (s .words) f) eight))
-did (tick samples) s t (Did.by-tick words′ live′ d) = rw (d .memory, d .remembers)
+did (frame f room) s t (Did.by-frame reply reply′ r long d) = d .state ∙ ap (after s) (d .answered ∙ ap (answer s f) long)
+did (tick samples) s t (Did.by-tick d) = d
 
 pub only-the-fold : Only-the-fold
 unfolding run
@@ -49,74 +46,63 @@ only-the-fold (e ∷ es) s u (Ran.then {t = t} d r) =
 
 -- ---- a configuration that agrees with a valid one is valid
 
-agrees : (words other : List ℕ) → ((k : ℕ) → k < 611 → getD words k 0 ≡ getD other k 0) → Valid other → Valid words
+agrees : (unit other : List ℕ) → ((k : ℕ) → k < configured → getD unit k 0 ≡ getD other k 0) → Valid other → Valid unit
 unfolding held
-agrees words other same v =
+agrees unit other same v =
     record {
-      sized = λ slot h. subst (λ (w : ℕ). w < 256 ^ width (range-of slot .kind)) (sym (at slot h)) (v .sized slot h);
-      ranged = λ slot h. ap (in-range (range-of slot)) (at slot h) ∙ v .ranged slot h;
+      sized = λ slot h. subst (λ (w : ℕ). w < 256 ^ width (range-of slot .kind)) (sym (same slot h)) (v .sized slot h);
+      ranged = λ slot h. ap (in-range (range-of slot)) (same slot h) ∙ v .ranged slot h;
       linked = λ slot h.
-          ap (λ (w : ℕ). past-upper words (upper-of slot) (signed16 w)) (at slot h)
-          ∙ upper-same words other (another slot) (λ u e. same u (is-another slot u e .0)) (upper-of slot) (upper-another slot h) (signed16 (getD other slot 0))
+          ap (λ (w : ℕ). past-upper unit (upper-of slot) (signed16 w)) (same slot h)
+          ∙ upper-same unit other (another slot) (λ u e. same u (is-another slot u e .0)) (upper-of slot) (upper-another slot h) (signed16 (getD other slot 0))
           ∙ v .linked slot h;
     }
-  where
-    at : (slot : ℕ) → slot < configured → getD words slot 0 ≡ getD other slot 0
-    at slot h = same slot (omega (arith, counted .0))
 
 -- ---- soundness is kept
 
-kept-by-frame : (words f : List ℕ) → length words ≡ 652 → (a : Answer) → answer words f 8 ≡ a
-    → (length (after words a) ≡ 652) × (getD (after words a) 623 0 ≡ getD words 623 0)
+-- a frame writes at most one word, and none that can only be read or that ticks remember
+kept-by-frame : (unit f : List ℕ) (room : ℕ) (a : Answer) → answer unit f room ≡ a →
+    (length (after unit a) ≡ length unit) × (anyFlagged (after unit a) ≡ anyFlagged unit) × (entry (after unit a) 0x1001 0 ≡ entry unit 0x1001 0)
 unfolding after
-kept-by-frame words f l Silent e = (l, refl)
-kept-by-frame words f l (Aborted a) e = (l, refl)
-kept-by-frame words f l (Value w n) e = (l, refl)
-kept-by-frame words f l (Written slot word) e =
-    (length-set words slot word ∙ l, getD-set-other words slot 623 word 0 (λ q. omega (arith, accepted words f 8 slot word e .below)))
+kept-by-frame unit f room Silent e = (refl, refl, refl)
+kept-by-frame unit f room (Aborted a) e = (refl, refl, refl)
+kept-by-frame unit f room (Value w n) e = (refl, refl, refl)
+kept-by-frame unit f room (Written slot word) e =
+    let below = accepted unit f room slot word e .below in
+    (length-set unit slot word, Tick.flags-unwritten unit slot word below, Tick.register-unwritten unit slot word below)
 
-register-slot : slot-of 0x1001 0 ≡ 623
-unfolding slot-of
-register-slot = refl
-
--- the register's word, by its name
-by-name : (words : List ℕ) → entry words 0x1001 0 ≡ getD words 623 0
-unfolding entry
-by-name words = ap (λ (slot : ℕ). getD words slot 0) register-slot
-
-sound-after-frame : (s : State) (f : List ℕ) → Bytes f → Sound s → Sound (happens (frame f) s)
+sound-after-frame : (unit f : List ℕ) (room : ℕ) → Bytes f → Sound unit → Sound (happens (frame f room) unit)
 unfolding happens
-sound-after-frame s f b h =
-    let words′ = after (s .words) (answer (s .words) f 8) in
-    let k = kept-by-frame (s .words) f (h .size) (answer (s .words) f 8) refl in
+sound-after-frame unit f room b h =
+    let k = kept-by-frame unit f room (answer unit f room) refl in
     record {
-      size = k .0;
-      valid = stays-valid .1 (s .words) f 8 (h .size) b (h .valid);
-      register = by-name words′ ∙ k .1 ∙ sym (by-name (s .words)) ∙ h .register;
+      size = k .0 ∙ h .size;
+      valid = stays-valid .1 unit f room (h .size) b (h .valid);
+      register = k .2 ∙ h .register ∙ ap (λ (t : Bool). first t 0x21 0) (sym (k .1));
     }
 
-sound-after-tick : (s : State) (samples : List ℤ) → Sound s → Sound (happens (tick samples) s)
+sound-after-tick : (unit : List ℕ) (samples : List ℤ) → Sound unit → Sound (happens (tick samples) unit)
 unfolding happens
-sound-after-tick s samples h =
+sound-after-tick unit samples h =
     record {
-      size = Tick.length-kept samples s ∙ h .size;
-      valid = agrees (ticked samples s .words) (s .words) (λ k l. Tick.words-kept samples s k (Tick.Unpublished.before (omega arith))) (h .valid);
-      register = Tick.register-told samples s (h .size);
+      size = Tick.length-kept samples unit ∙ h .size;
+      valid = agrees (ticked samples unit) unit (λ k l. Tick.words-kept samples unit k (Tick.Unpublished.before (can-be-written k l))) (h .valid);
+      register = Tick.register-told samples unit (h .size);
     }
 
-sound-on : (events : List Event) (s : State) → Made-of-bytes events → Sound s → Sound (run events s)
+sound-on : (events : List Event) (unit : List ℕ) → Made-of-bytes events → Sound unit → Sound (run events unit)
 unfolding run
-sound-on [] s b h = h
-sound-on (frame f ∷ es) s b h = sound-on es (happens (frame f) s) (b .1) (sound-after-frame s f (b .0) h)
-sound-on (tick samples ∷ es) s b h = sound-on es (happens (tick samples) s) b (sound-after-tick s samples h)
+sound-on [] unit b h = h
+sound-on (frame f room ∷ es) unit b h = sound-on es (happens (frame f room) unit) (b .1) (sound-after-frame unit f room (b .0) h)
+sound-on (tick samples ∷ es) unit b h = sound-on es (happens (tick samples) unit) b (sound-after-tick unit samples h)
 
-register-at-start : getD starts 623 0 ≡ first (anyFlagged (fresh .inputs)) 0x21 0
-unfolding starts fresh anyFlagged memory first
+size-at-start : length at-start ≡ unit-size
+unfolding at-start starts words signals-at runs-at flags-at unit-size
+size-at-start = refl
+
+register-at-start : entry at-start 0x1001 0 ≡ first (anyFlagged at-start) 0x21 0
+unfolding entry slot-of at-start starts words signals-at runs-at flags-at unit-size anyFlagged memory first
 register-at-start = refl
 
-sound-at-start : Sound at-start
-unfolding at-start
-sound-at-start = record { size = starts-length; valid = valid-at-start; register = by-name starts ∙ register-at-start }
-
 pub always-sound : Always-sound
-always-sound events b = sound-on events at-start b sound-at-start
+always-sound events b = sound-on events at-start b (record { size = size-at-start; valid = valid-at-start; register = register-at-start })

@@ -5,7 +5,7 @@ use mathlib.Core.List.{List, _∷_, _++_}
 use Prim.Native.Nat.{ℕ, _-_}
 use native.Mathlib.Omega.{arith}
 use lib.ListN.{length, getD, set, take, drop, replicate}
-use Rattle.dictionary.proofs.NameLaws.{counted}
+use Rattle.dictionary.specs.Unit.{unit-size}
 use Rattle.entries.specs.Valid.{Valid}
 use Rattle.sdo.specs.Answers.{offered, writing, obeyed, answer}
 use Rattle.sdo.specs.Frames.{name-in, data-in, command-of, read-command, reply-to}
@@ -34,7 +34,7 @@ pub stays-valid : Stays-valid
 unfolding after
 stays-valid = (valid-at-start, λ words frame room l b v. kept words frame room l b v (answer words frame room) refl)
   where
-    kept : (words frame : List ℕ) (room : ℕ) → length words ≡ 652 → Bytes frame → Valid words → (a : Answer) → answer words frame room ≡ a → Valid (after words a)
+    kept : (words frame : List ℕ) (room : ℕ) → length words ≡ unit-size → Bytes frame → Valid words → (a : Answer) → answer words frame room ≡ a → Valid (after words a)
     kept words frame room l b v Silent e = v
     kept words frame room l b v (Aborted x) e = v
     kept words frame room l b v (Value w n) e = v
@@ -52,4 +52,4 @@ reads-back words frame room slot word size l b c e query eight r n =
 pub decided-by-configuration : Decided-by-configuration
 unfolding answer obeyed writing offered
 decided-by-configuration words other frame room slot size same c f h =
-    rw (c, f, judged-same words other (λ k l. same k (omega (arith, counted .0))) slot (data-in size frame) h)
+    rw (c, f, judged-same words other (λ k l. same k l) slot (data-in size frame) h)

@@ -14,6 +14,7 @@ use Rattle.numbers.specs.Order.{below}
 use Rattle.numbers.specs.Signed.{signed16}
 use Rattle.dictionary.specs.Names.{configured}
 use Rattle.dictionary.specs.Rows.{width}
+use Rattle.dictionary.specs.Unit.{unit-size}
 use Rattle.entries.specs.Chains.{upper-of, lower-of}
 use Rattle.entries.specs.Judge.{in-range, held, past-upper, past-lower}
 use Rattle.entries.specs.Valid.{Valid}
@@ -25,6 +26,7 @@ use Rattle.sdo.specs.Answers.{size-of}
 use Rattle.sdo.specs.Frames.{data-in}
 use Rattle.promises.specs.Serving.{Bytes}
 use Rattle.promises.proofs.Accepted.{Accepted}
+use Rattle.promises.proofs.Configuration.{in-unit}
 use Rattle.promises.proofs.ByteLaws.{bytes-from, little-below}
 use Rattle.promises.proofs.Judged.{fitting}
 use Rattle.promises.proofs.Neighbours.{near, another, is-another, upper-another, back-down, turned, both-ways, upper-same}
@@ -37,9 +39,9 @@ module _ (words frame : List ℕ) (slot word : ℕ) (a : Accepted words frame sl
       subst (λ (n : ℕ). word < 256 ^ n) (sym (a .fits))
       (subst (λ (w : ℕ). w < 256 ^ a .size) (sym (a .holds)) (little-below (a .size) (drop 4 frame) (bytes-from 4 frame b)))
 
-  module _ (l : length words ≡ 652) where
+  module _ (l : length words ≡ unit-size) where
     pub there : getD (set words slot word) slot 0 ≡ word
-    there = getD-set-same words slot word 0 (omega arith)
+    there = getD-set-same words slot word 0 (omega (arith, in-unit slot (a .below)))
 
     elsewhere : (k : ℕ) → (k ≡ slot → ⊥) → getD (set words slot word) k 0 ≡ getD words k 0
     elsewhere k n = getD-set-other words slot k word 0 n

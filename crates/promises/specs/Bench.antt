@@ -10,7 +10,7 @@ use Rattle.numbers.specs.Line.{lineAt}
 use Rattle.numbers.specs.Nearest.{nearest16}
 use Rattle.dictionary.specs.Names.{slot-of}
 use Rattle.entries.specs.Judge.{held}
-use Rattle.entries.specs.Values.{starts}
+use Rattle.entries.specs.Values.{at-start}
 use Rattle.sdo.specs.Answers.{answer}
 use Rattle.sdo.specs.Frames.{reply-to}
 use Rattle.terminals.specs.Input.{process}
@@ -30,20 +30,20 @@ pub data Example : Type 0 where
 unfoldable pub fresh-input : Settings
 fresh-input =
     record {
-      fv1 = held starts (slot-of 0x7120 1);
-      pv1 = held starts (slot-of 0x7121 1);
-      fv2 = held starts (slot-of 0x7122 1);
-      pv2 = held starts (slot-of 0x7123 1);
-      start = held starts (slot-of 0x7148 1);
-      end = held starts (slot-of 0x7149 1);
-      hysteresis = held starts (slot-of 0x2111 1);
+      fv1 = held at-start (slot-of 0x7120 1);
+      pv1 = held at-start (slot-of 0x7121 1);
+      fv2 = held at-start (slot-of 0x7122 1);
+      pv2 = held at-start (slot-of 0x7123 1);
+      start = held at-start (slot-of 0x7148 1);
+      end = held at-start (slot-of 0x7149 1);
+      hysteresis = held at-start (slot-of 0x2111 1);
       detect = true;
       delay = 1000;
     }
 
 -- what a row says
 abbrev pub Shown : Example → Type 0
-Shown (frame f reply) = reply-to f (answer starts f 8) ≡ reply
+Shown (frame f reply) = reply-to f (answer at-start f 8) ≡ reply
 Shown (sample v pv) = process fresh-input v ≡ pv
 Shown (points x1 y1 x2 y2 x y) = lineAt x1 y1 x2 y2 x ≡ y
 Shown (real bits n) = nearest16 (ofBits binary32 bits) ≡ n

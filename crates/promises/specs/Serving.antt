@@ -5,9 +5,10 @@ use mathlib.Core.Path.{_≡_}
 use mathlib.Core.List.{List, _∷_, _++_}
 use lib.ListN.{length, getD, take, drop, replicate}
 use Rattle.dictionary.specs.Names.{configured, find}
+use Rattle.dictionary.specs.Unit.{unit-size}
 use Rattle.dictionary.specs.declared.types.Found.the-variants.{At}
 use Rattle.entries.specs.Valid.{Valid}
-use Rattle.entries.specs.Values.{starts}
+use Rattle.entries.specs.Values.{at-start}
 use Rattle.sdo.specs.Answers.{answer}
 use Rattle.sdo.specs.Frames.{index-in, sub-in, name-in, command-of, read-command, reply-to}
 use Rattle.sdo.specs.Served.{Served, after}
@@ -23,34 +24,34 @@ Bytes frame = (i : ℕ) → getD frame i 0 < 256
 -- "An abort changes no state"; where there is no reply the buffer is untouched too
 abbrev pub Untouched : Type 0
 Untouched =
-    (words frame reply words′ reply′ : List ℕ) (r : Answer) → Served words frame reply words′ reply′ r
-    → (r ≡ Silent → (words′ ≡ words) × (reply′ ≡ reply)) × ((a : Abort) → r ≡ Aborted a → words′ ≡ words)
+    (unit frame reply unit′ reply′ : List ℕ) (r : Answer) → Served unit frame reply unit′ reply′ r
+    → (r ≡ Silent → (unit′ ≡ unit) × (reply′ ≡ reply)) × ((a : Abort) → r ≡ Aborted a → unit′ ≡ unit)
 
 -- two answers that the contract allows are equal, with all that they leave
 abbrev pub Determined : Type 0
 Determined =
-    (words frame reply w₁ b₁ w₂ b₂ : List ℕ) (r s : Answer) → Served words frame reply w₁ b₁ r → Served words frame reply w₂ b₂ s
-    → (r ≡ s) × (w₁ ≡ w₂) × (b₁ ≡ b₂)
+    (unit frame reply u₁ b₁ u₂ b₂ : List ℕ) (r s : Answer) → Served unit frame reply u₁ b₁ r → Served unit frame reply u₂ b₂ s
+    → (r ≡ s) × (u₁ ≡ u₂) × (b₁ ≡ b₂)
 
 -- an accepted write changes one slot, and a read of the same name then answers with the bytes written, zeros behind them
 abbrev pub Reads-back : Type 0
 Reads-back =
-    (words frame : List ℕ) (room slot word size : ℕ) → length words ≡ 652 → Bytes frame
-    → command-of (getD frame 0 0) ≡ Write size → answer words frame room ≡ Written slot word
+    (unit frame : List ℕ) (room slot word size : ℕ) → length unit ≡ unit-size → Bytes frame
+    → command-of (getD frame 0 0) ≡ Write size → answer unit frame room ≡ Written slot word
     → (query : List ℕ) → length query ≡ 8 → getD query 0 0 ≡ 0x40 → name-in query ≡ name-in frame
-    → reply-to query (answer (after words (Written slot word)) query 8)
+    → reply-to query (answer (after unit (Written slot word)) query 8)
     ≡ read-command size ∷ name-in frame ++ take size (drop 4 frame) ++ replicate (4 - size) 0
 
 -- "Chains, true at all times": at start, and after every frame
 abbrev pub Stays-valid : Type 0
 Stays-valid =
-    Valid starts
-    × ((words frame : List ℕ) (room : ℕ) → length words ≡ 652 → Bytes frame → Valid words → Valid (after words (answer words frame room)))
+    Valid at-start
+    × ((unit frame : List ℕ) (room : ℕ) → length unit ≡ unit-size → Bytes frame → Valid unit → Valid (after unit (answer unit frame room)))
 
 -- the configuration decides the answer to a configuration write, and nothing else does
 abbrev pub Decided-by-configuration : Type 0
 Decided-by-configuration =
-    (words other frame : List ℕ) (room slot size : ℕ)
-    → ((k : ℕ) → k < configured → getD words k 0 ≡ getD other k 0)
+    (unit other frame : List ℕ) (room slot size : ℕ)
+    → ((k : ℕ) → k < configured → getD unit k 0 ≡ getD other k 0)
     → command-of (getD frame 0 0) ≡ Write size → find (index-in frame) (sub-in frame) ≡ At slot → slot < configured
-    → answer words frame room ≡ answer other frame room
+    → answer unit frame room ≡ answer other frame room

@@ -11,10 +11,11 @@ use denote.Enum.Declared.{tagOf}
 use types.Run.{OneOf, miss}
 use borrow.Author.Tests.{lt-ltb, le-ltb, eq-eqb, ne-eqb, leb-true, eqb-true, eqb-false, ltb-true, ltb-false}
 use Rattle.numbers.specs.Choice.{first}
-use Rattle.dictionary.specs.Names.{find, writable}
+use Rattle.dictionary.specs.Names.{find, slot-found, words, writable}
+use Rattle.dictionary.specs.Unit.{unit-size}
+use Rattle.dictionary.proofs.NameLaws.{found-below}
 use Rattle.dictionary.specs.declared.types.Found.{Found}
 use Rattle.dictionary.specs.declared.types.Found.the-variants as found
-use Rattle.dictionary.proofs.NameLaws.{counted}
 use Rattle.entries.specs.Judge.{judged}
 use Rattle.entries.specs.declared.types.Verdict.{Verdict}
 use Rattle.sdo.specs.Answers.{size-of, reading, stored, offered, refused, writing, obeyed, silent, answer}
@@ -31,22 +32,31 @@ use Rattle.sdo.specs.declared.types.Command.the-variants.{Read, Write, O
 -- ---- rows 5 to 9, for a slot
 
 module _ (words : List ℕ) (slot size word : ℕ) where
-  pub read-only : 623 ≤ slot → Aborted abort.ReadOnly ≡ offered words slot size word
+  pub read-only : writable ≤ slot → Aborted abort.ReadOnly ≡ offered words slot size word
   unfolding offered first
-  read-only h = simp (counted .1, le-ltb slot 623 h)
+  read-only h = simp (le-ltb slot writable h)
 
-  module _ (h : slot < 623) (own : ℕ) (e : own ≡ size-of slot) where
+  module _ (h : slot < writable) (own : ℕ) (e : own ≡ size-of slot) where
     pub too-long : own < size → Aborted abort.TooLong ≡ offered words slot size word
     unfolding offered first
-    too-long l = simp (counted .1, lt-ltb slot 623 h, ← e, lt-ltb own size l)
+    too-long l = simp (lt-ltb slot writable h, ← e, lt-ltb own size l)
 
     pub too-short : size < own → Aborted abort.TooShort ≡ offered words slot size word
     unfolding offered first
-    too-short l = simp (counted .1, lt-ltb slot 623 h, ← e, le-ltb own size (omega arith), lt-ltb size own l)
+    too-short l = simp (lt-ltb slot writable h, ← e, le-ltb own size (omega arith), lt-ltb size own l)
 
     pub fitting : own ≤ size → size ≤ own → stored slot word (judged words slot word) ≡ offered words slot size word
     unfolding offered first
-    fitting l m = simp (counted .1, lt-ltb slot 623 h, ← e, le-ltb own size m, le-ltb size own l)
+    fitting l m = simp (lt-ltb slot writable h, ← e, le-ltb own size m, le-ltb size own l)
+
+-- ---- a name that is found stands in the unit
+
+pub in-unit : {f : Found} {slot : ℕ} → slot-found f < unit-size → f ≡ found.At slot → slot < unit-size
+in-unit h e = rw e at h
+
+pub found-in-unit : (index sub : ℕ) (f : Found) → f ≡ find index sub → slot-found f < unit-size
+unfolding unit-size words
+found-in-unit index sub f e = let h = found-below index sub f e in omega arith
 
 -- ---- a name that is no entry's, an answer that writes nothing: told by the case's number
 

@@ -61,6 +61,12 @@ set-past [] i v h = refl
 set-past (x ∷ xs) zero v h = absurd (not-suc-le-zero h)
 set-past (x ∷ xs) (suc i) v h = ap (λ (l : List ℕ). x ∷ l) (set-past xs i v (le-of-suc-le-suc h))
 
+-- ---- a value as so many bytes
+
+pub shown : (out frame : List ℕ) (word size : ℕ) {head value : ℕ} → head ≡ read-command size → value ≡ cut word size
+    → reply frame head value ++ drop 8 out ≡ reply frame (read-command size) (cut word size) ++ drop 8 out
+shown out frame word size h v = rw (h, v)
+
 -- ---- an answer's reply at the front of the buffer
 
 module _ (out frame : List ℕ) (r : Answer) where
@@ -68,9 +74,9 @@ module _ (out frame : List ℕ) (r : Answer) where
   unfolding filled reply-to reply name-in bytes
   sent-abort a value e v = rw (e, v)
 
-  pub sent-value : (word size head value : ℕ) → r ≡ Value word size → head ≡ read-command size → value ≡ cut word size → reply frame head value ++ drop 8 out ≡ filled out frame r
+  pub sent-value : (word size : ℕ) → r ≡ Value word size → reply frame (read-command size) (cut word size) ++ drop 8 out ≡ filled out frame r
   unfolding filled reply-to reply name-in bytes
-  sent-value word size head value e h v = rw (e, h, v)
+  sent-value word size e = rw e
 
   pub sent-written : (slot word : ℕ) → r ≡ Written slot word → reply frame 0x60 0 ++ drop 8 out ≡ filled out frame r
   unfolding filled reply-to reply name-in bytes

@@ -1,9 +1,10 @@
 // The answer to a frame: the first row of the paper's table that matches.
 ghost use mathlib.Core.Path.{_≡_};
-ghost use Prim.Native.Nat.{_≤_};
+ghost use Prim.Native.Nat.{_<_};
 ghost use lib.ListN.{length, getD};
-ghost use Rattle.dictionary.specs.Rows.{width};
-ghost use Rattle.sdo.specs.Answers.{size-of, reading, stored, offered, refused, writing, obeyed, answer};
+ghost use Rattle.dictionary.specs.Names.{slot-found};
+ghost use Rattle.dictionary.specs.Unit.{unit-size};
+ghost use Rattle.sdo.specs.Answers.{reading, stored, offered, refused, writing, obeyed, answer};
 ghost use Rattle.sdo.specs.Frames.{command-of};
 use super::data::command;
 use super::data::data_in;
@@ -13,44 +14,26 @@ use super::types::Abort;
 use super::types::Answer;
 use super::types::Command;
 use dictionary::names::find;
+use dictionary::slots::ERROR_REGISTER;
+use dictionary::slots::Unit;
 use dictionary::types::Found;
-use dictionary::types::Kind;
 use entries::judging::judge;
-use entries::ranges::range;
+use entries::ranges::width;
 use entries::types::Verdict;
-use entries::words::fetch;
 
-fn width_of(kind: Kind) -> u8
-    ensures { λ r. ⌜ r ≡ width kind ⌝ }
-{
-    match kind {
-        Kind::Unsigned8 => 1,
-        Kind::Integer16 => 2,
-        Kind::Unsigned16 => 2,
-        Kind::Real32 => 4,
-    }
-}
-
-fn size(slot: u16) -> u8
-    ensures { λ r. ⌜ r ≡ size-of slot ⌝ }
-{
-    let own = range(slot);
-    let kind = own.kind;
-    width_of(kind)
-}
-
-fn read(words: &[u32], found: Found) -> Answer
-    ensures { λ r. ⌜ r ≡ reading (now (words .entry)) found ⌝ }
+fn read(unit: &Unit, found: Found) -> Answer
+    requires { ⌜ slot-found found < unit-size ⌝ }
+    ensures { λ r. ⌜ r ≡ reading (now (unit .entry)) found ⌝ }
 {
     match found {
         Found::NoIndex => Answer::Aborted(Abort::NoIndex),
         Found::NoSub => Answer::Aborted(Abort::NoSub),
         Found::Count(n) => Answer::Value(n as u32, 1),
-        Found::At(slot) => Answer::Value(fetch(words, slot), size(slot)),
+        Found::At(slot) => Answer::Value(unit[slot], width(slot)),
     }
 }
 
-fn store(slot: u16, word: u32, verdict: Verdict) -> Answer
+fn store(slot: usize, word: u32, verdict: Verdict) -> Answer
     ensures { λ r. ⌜ r ≡ stored slot word verdict ⌝ }
 {
     match verdict {
@@ -63,21 +46,21 @@ fn store(slot: u16, word: u32, verdict: Verdict) -> Answer
     }
 }
 
-fn offer(words: &[u32], slot: u16, length: u8, word: u32) -> Answer
-    ensures { λ r. ⌜ r ≡ offered (now (words .entry)) slot length word ⌝ }
+fn offer(unit: &Unit, slot: usize, length: u8, word: u32) -> Answer
+    ensures { λ r. ⌜ r ≡ offered (now (unit .entry)) slot length word ⌝ }
 {
-    // 611 configuration entries and 12 EC values come first
-    if 623 <= slot {
+    // the configuration and the EC values come first
+    if ERROR_REGISTER <= slot {
         return Answer::Aborted(Abort::ReadOnly);
     }
-    let own = size(slot);
+    let own = width(slot);
     if own < length {
         return Answer::Aborted(Abort::TooLong);
     }
     if length < own {
         return Answer::Aborted(Abort::TooShort);
     }
-    store(slot, word, judge(words, slot, word))
+    store(slot, word, judge(unit, slot, word))
 }
 
 // A name that is no entry's.
@@ -92,35 +75,31 @@ fn refuse(found: Found) -> Answer
     }
 }
 
-fn write(words: &[u32], length: u8, word: u32, found: Found) -> Answer
-    ensures { λ r. ⌜ r ≡ writing (now (words .entry)) length word found ⌝ }
+fn write(unit: &Unit, length: u8, word: u32, found: Found) -> Answer
+    ensures { λ r. ⌜ r ≡ writing (now (unit .entry)) length word found ⌝ }
 {
     let Found::At(slot) = found else {
         return refuse(found);
     };
-    offer(words, slot, length, word)
+    offer(unit, slot, length, word)
 }
 
-fn obey(words: &[u32], frame: &[u8]) -> Answer
+fn obey(unit: &Unit, frame: &[u8]) -> Answer
     requires { ⌜ length (now frame) ≡ 8 ⌝ }
-    ensures { λ r. ⌜ r ≡ obeyed (now (words .entry)) (now (frame .entry)) (command-of (getD (now (frame .entry)) 0 0)) ⌝ }
+    ensures { λ r. ⌜ r ≡ obeyed (now (unit .entry)) (now (frame .entry)) (command-of (getD (now (frame .entry)) 0 0)) ⌝ }
 {
+    let found = find(index_in(frame), sub_in(frame));
     let command = command(frame[0]);
     match command {
         Command::Other => Answer::Aborted(Abort::Command),
-        Command::Read => read(words, find(index_in(frame), sub_in(frame))),
-        Command::Write(size) => write(
-            words,
-            size,
-            data_in(frame, size),
-            find(index_in(frame), sub_in(frame)),
-        ),
+        Command::Read => read(unit, found),
+        Command::Write(size) => write(unit, size, data_in(frame, size), found),
     }
 }
 
-// Any words, any frame, any room for the reply.
-pub fn decide(words: &[u32], frame: &[u8], room: usize) -> Answer
-    ensures { λ r. ⌜ r ≡ answer (now (words .entry)) (now (frame .entry)) room ⌝ }
+// Any unit, any frame, any room for the reply.
+pub fn decide(unit: &Unit, frame: &[u8], room: usize) -> Answer
+    ensures { λ r. ⌜ r ≡ answer (now (unit .entry)) (now (frame .entry)) room ⌝ }
 {
     if frame.len() != 8 {
         return Answer::Silent;
@@ -131,5 +110,5 @@ pub fn decide(words: &[u32], frame: &[u8], room: usize) -> Answer
     if frame[0] == 0x80 {
         return Answer::Silent;
     }
-    obey(words, frame)
+    obey(unit, frame)
 }

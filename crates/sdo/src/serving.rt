@@ -8,6 +8,7 @@ ghost use Rattle.sdo.specs.Served.{Served, after, filled};
 use super::deciding::decide;
 use super::types::Abort;
 use super::types::Answer;
+use dictionary::slots::Unit;
 
 fn code_of(abort: Abort) -> u32
     ensures { λ r. ⌜ r ≡ code abort ⌝ }
@@ -25,30 +26,6 @@ fn code_of(abort: Abort) -> u32
         Abort::ChainUp => 0x0609_0031,
         Abort::ChainDown => 0x0609_0032,
     }
-}
-
-fn read_head(size: u8) -> u8
-    ensures { λ r. ⌜ r ≡ read-command size ⌝ }
-{
-    if size == 4 {
-        return 0x43;
-    }
-    if size == 2 {
-        return 0x4B;
-    }
-    0x4F
-}
-
-fn cut_to(word: u32, size: u8) -> u32
-    ensures { λ r. ⌜ r ≡ cut word size ⌝ }
-{
-    if size == 4 {
-        return word;
-    }
-    if size == 2 {
-        return word % 0x1_0000;
-    }
-    word % 0x100
 }
 
 // The eight bytes of a reply.
@@ -73,10 +50,25 @@ fn keep(words: &mut [u32], answer: Answer)
     let Answer::Written(slot, word) = answer else {
         return;
     };
-    let at = slot as usize;
-    if at < words.len() {
-        words[at] = word;
+    if slot < words.len() {
+        words[slot] = word;
     }
+}
+
+// The reply that shows a value of so many bytes.
+fn show(frame: &[u8], out: &mut [u8], word: u32, size: u8)
+    requires { ⌜ (length (now frame) ≡ 8) × (8 ≤ length (now out)) ⌝ }
+    ensures { λ _. ⌜ now (out .exit) ≡ reply (now (frame .entry)) (read-command size) (cut word size) ++ drop 8 (now (out .entry)) ⌝ }
+{
+    if size == 4 {
+        respond(frame, out, 0x43, word);
+        return;
+    }
+    if size == 2 {
+        respond(frame, out, 0x4B, word % 0x1_0000);
+        return;
+    }
+    respond(frame, out, 0x4F, word % 0x100)
 }
 
 // The reply to an answer, if there is one.
@@ -87,17 +79,17 @@ fn send(frame: &[u8], out: &mut [u8], answer: Answer)
     match answer {
         Answer::Silent => {}
         Answer::Aborted(abort) => respond(frame, out, 0x80, code_of(abort)),
-        Answer::Value(word, size) => respond(frame, out, read_head(size), cut_to(word, size)),
+        Answer::Value(word, size) => show(frame, out, word, size),
         Answer::Written(_, _) => respond(frame, out, 0x60, 0),
     }
 }
 
-// Any words, any frame, any reply buffer.
-pub fn serve(words: &mut [u32; 652], frame: &[u8], reply: &mut [u8]) -> Answer
-    ensures { λ r. ⌜ Served (now (words .entry)) (now (frame .entry)) (now (reply .entry)) (now (words .exit)) (now (reply .exit)) r ⌝ }
+// Any unit, any frame, any reply buffer.
+pub fn serve(unit: &mut Unit, frame: &[u8], reply: &mut [u8]) -> Answer
+    ensures { λ r. ⌜ Served (now (unit .entry)) (now (frame .entry)) (now (reply .entry)) (now (unit .exit)) (now (reply .exit)) r ⌝ }
 {
-    let answer = decide(words, frame, reply.len());
-    keep(words, answer);
+    let answer = decide(unit, frame, reply.len());
+    keep(unit, answer);
     send(frame, reply, answer);
     answer
 }

@@ -21,7 +21,7 @@ pub enum Answer {
     // a value of so many bytes
     Value(u32, u8),
     // a word for a slot
-    Written(u16, u32),
+    Written(usize, u32),
 }
 
 // A command byte: a read, a write of so many bytes, or neither.

@@ -1,20 +1,17 @@
 // The session printer: standard input is cut into lines at each LF, each line is answered, and the answers are on standard output before more is read.
-use controller::state::Live;
-use controller::state::fresh;
-use entries::start::start;
+use answers::printing::show_unknown;
+use dictionary::slots::Unit;
+use fresh::start::start;
 use libc::STDIN_FILENO;
 use libc::STDOUT_FILENO;
-use printer::answering::Answered;
 use printer::answering::answer;
-use printer::printing::show_unknown;
 ghost use mathlib.Core.Path.{_≡_};
 ghost use Prim.Native.Nat.{_≤_};
 ghost use lib.ListN.{length};
 
-// What stands between two lines: what ticks remember, how many bytes of the unfinished line are held (65: it is longer than 64),
-// and how many bytes of answers wait to be written.
+// What stands between two lines: how many bytes of the unfinished line are held (65: it is longer than 64), and how many bytes of answers
+// wait to be written.
 struct Place {
-    live: Live,
     held: usize,
     waiting: usize,
 }
@@ -56,18 +53,11 @@ fn hold(part: &[u8], line: &mut [u8; 64], held: usize) -> usize {
     n
 }
 
-fn respond(
-    words: &mut [u32; 652],
-    live: Live,
-    line: &[u8],
-    held: usize,
-    text: &mut [u8; 64],
-) -> Answered {
+fn respond(unit: &mut Unit, line: &[u8], held: usize, text: &mut [u8; 64]) -> usize {
     if held > line.len() {
-        let count = show_unknown(text);
-        return Answered { live, count };
+        return show_unknown(text);
     }
-    answer(words, live, &line[..held], text)
+    answer(unit, &line[..held], text)
 }
 
 // An answer after those that wait.
@@ -105,21 +95,15 @@ fn make_room(out: &[u8; 4096], waiting: usize) -> usize
 }
 
 // The line has come to its end.
-fn finish(words: &mut [u32; 652], line: &[u8; 64], place: Place, out: &mut [u8; 4096]) -> Place
+fn finish(unit: &mut Unit, line: &[u8; 64], place: Place, out: &mut [u8; 4096]) -> Place
     requires { ⌜ place .waiting ≤ 4096 ⌝ }
     ensures { λ r. ⌜ r .waiting ≤ 4096 ⌝ }
 {
     let room = make_room(out, place.waiting);
-    let live = place.live;
     let mut text = [0u8; 64];
-    let answered = respond(words, live, line, place.held, &mut text);
-    let after = answered.live;
-    let waiting = append(&text, answered.count, out, room);
-    Place {
-        live: after,
-        held: 0,
-        waiting,
-    }
+    let count = respond(unit, line, place.held, &mut text);
+    let waiting = append(&text, count, out, room);
+    Place { held: 0, waiting }
 }
 
 // The line goes on in the next piece.
@@ -127,9 +111,7 @@ fn carry(place: Place, part: &[u8], line: &mut [u8; 64]) -> Place
     ensures { λ r. ⌜ r .waiting ≡ place .waiting ⌝ }
 {
     let held = hold(part, line, place.held);
-    let live = place.live;
     Place {
-        live,
         held,
         waiting: place.waiting,
     }
@@ -137,7 +119,7 @@ fn carry(place: Place, part: &[u8], line: &mut [u8; 64]) -> Place
 
 // One piece of the input.
 fn feed(
-    words: &mut [u32; 652],
+    unit: &mut Unit,
     line: &mut [u8; 64],
     place: Place,
     piece: &[u8],
@@ -153,7 +135,7 @@ fn feed(
         here = carry(here, &piece[start..end], line);
         start = end;
         if end < piece.len() {
-            here = finish(words, line, here, out);
+            here = finish(unit, line, here, out);
             start = end + 1;
         }
     }
@@ -161,14 +143,12 @@ fn feed(
 }
 
 // Writes what waits, reads once and answers what came.
-fn turn(words: &mut [u32; 652], line: &mut [u8; 64], place: Place, out: &mut [u8; 4096]) -> Step
+fn turn(unit: &mut Unit, line: &mut [u8; 64], place: Place, out: &mut [u8; 4096]) -> Step
     requires { ⌜ place .waiting ≤ 4096 ⌝ }
     ensures { λ r. ⌜ r .place .waiting ≤ 4096 ⌝ }
 {
     flush(out, place.waiting);
-    let live = place.live;
     let empty = Place {
-        live,
         held: place.held,
         waiting: 0,
     };
@@ -181,7 +161,7 @@ fn turn(words: &mut [u32; 652], line: &mut [u8; 64], place: Place, out: &mut [u8
         };
     }
     let n = io::count(got, &piece);
-    let next = feed(words, line, empty, &piece[..n], out);
+    let next = feed(unit, line, empty, &piece[..n], out);
     Step {
         place: next,
         more: true,
@@ -189,14 +169,14 @@ fn turn(words: &mut [u32; 652], line: &mut [u8; 64], place: Place, out: &mut [u8
 }
 
 // A proved loop has to end, and nothing says that the input does: the turns are counted down from a number that no session uses up.
-fn session(words: &mut [u32; 652], line: &mut [u8; 64], place: Place, out: &mut [u8; 4096]) -> Place
+fn session(unit: &mut Unit, line: &mut [u8; 64], place: Place, out: &mut [u8; 4096]) -> Place
     requires { ⌜ place .waiting ≤ 4096 ⌝ }
     ensures { λ r. ⌜ r .waiting ≤ 4096 ⌝ }
 {
     let mut here = place;
     let mut turns = u64::MAX;
     while turns > 0 {
-        let step = turn(words, line, here, out);
+        let step = turn(unit, line, here, out);
         here = step.place;
         if !step.more {
             return here;
@@ -207,27 +187,25 @@ fn session(words: &mut [u32; 652], line: &mut [u8; 64], place: Place, out: &mut 
 }
 
 // The last line may lack its line end.
-fn end(words: &mut [u32; 652], line: &[u8; 64], place: Place, out: &mut [u8; 4096])
+fn end(unit: &mut Unit, line: &[u8; 64], place: Place, out: &mut [u8; 4096])
     requires { ⌜ place .waiting ≤ 4096 ⌝ }
 {
     if place.held == 0 {
         flush(out, place.waiting);
         return;
     }
-    let last = finish(words, line, place, out);
+    let last = finish(unit, line, place, out);
     flush(out, last.waiting);
 }
 
 fn main() {
-    let mut words = start();
+    let mut unit = start();
     let mut line = [0u8; 64];
     let mut out = [0u8; 4096];
-    let live = fresh();
     let first = Place {
-        live,
         held: 0,
         waiting: 0,
     };
-    let last = session(&mut words, &mut line, first, &mut out);
-    end(&mut words, &line, last, &mut out);
+    let last = session(&mut unit, &mut line, first, &mut out);
+    end(&mut unit, &line, last, &mut out);
 }

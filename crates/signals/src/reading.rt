@@ -1,22 +1,30 @@
-// A signal as the blocks read it: its number, and the two states that are none.
+// A signal as the blocks read it: as a REAL32, as a whole number, and the two states that are no number.
 use crate::signal::Signal;
+use numbers::real::nearest;
 ghost use mathlib.Core.Path.{_≡_};
-ghost use Rattle.signals.specs.Signal.{isAbsent, isError, numberOf};
+ghost use Rattle.signals.specs.Signal.{isAbsent, isError, asReal, whole};
 
-// The REAL32 that a signal stands for, if it has a number.
-pub enum Number {
-    Is(f32),
-    Nothing,
-}
-
-pub fn counted(s: Signal) -> Number
-    ensures { λ r. ⌜ r ≡ numberOf s ⌝ }
+// A whole number as its REAL32; all else as it is.
+pub fn as_real(s: Signal) -> Signal
+    ensures { λ r. ⌜ r ≡ asReal s ⌝ }
 {
     match s {
-        Signal::Whole(n) => Number::Is(n as f32),
-        Signal::Real(x) => Number::Is(x),
-        Signal::Error => Number::Nothing,
-        Signal::Absent => Number::Nothing,
+        Signal::Whole(n) => Signal::Real(n as f32),
+        Signal::Real(x) => Signal::Real(x),
+        Signal::Error => Signal::Error,
+        Signal::Absent => Signal::Absent,
+    }
+}
+
+// The whole number that a signal comes to: 0 where it has none.
+pub fn as_whole(s: Signal) -> i16
+    ensures { λ r. ⌜ r ≡ whole s ⌝ }
+{
+    match s {
+        Signal::Whole(v) => v,
+        Signal::Real(x) => nearest(x),
+        Signal::Error => 0,
+        Signal::Absent => 0,
     }
 }
 

@@ -5,8 +5,3 @@ pub enum Signal {
     Error,
     Absent,
 }
-
-// A signal as an array holds it.
-pub struct Held {
-    pub signal: Signal,
-}

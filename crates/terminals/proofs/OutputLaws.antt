@@ -1,16 +1,13 @@
 -- Laws of the output: rules 1 to 6 give the value they name, and under rule 7 the command stays between the two configured limits.
 -- Assumes nothing.
-use Prim.Native.Nat.{ℕ, suc, _+_, _-_, _<_, _≤_, _/_}
+use Prim.Native.Nat.{ℕ, _+_, _-_, _<_, _≤_, _/_}
 use mathlib.Core.Bool.{Bool, true, false}
 use mathlib.Core.Path.{_≡_, refl, ap}
 use native.Mathlib.Nat.{div-lt-iff-lt-mul}
 use native.Mathlib.Omega.{arith}
-use borrow.Author.Tests.{ne-eqb}
 use lib.Dec.{eqb}
-use lib.IntN.{ℤ, pos, negsuc, _+ℤ_, _-ℤ_}
+use lib.IntN.{ℤ, pos, _+ℤ_, _-ℤ_}
 use lib.Signed.{_≤ℤ_, _<ℤ_}
-use mir.Syntax.{w16}
-use mir.Val.{SFits, ofZ}
 use Rattle.numbers.specs.Choice.{first}
 use Rattle.numbers.specs.Limit.{limitWhole}
 use Rattle.numbers.specs.Line.{nearestSize, nearest, between, lineAt}
@@ -18,20 +15,16 @@ use Rattle.numbers.specs.Order.{below}
 use Rattle.numbers.proofs.LimitLaws.{limit-from, limit-to}
 use Rattle.numbers.proofs.Orders.{lt-is-below}
 use Rattle.numbers.proofs.LineLaws.{from-first, to-second}
-use Rattle.terminals.specs.Output.{isZero, isOn, isOff, turnedOn, turnedOff, rule, ruleOf, faultOf}
-use Rattle.terminals.specs.Output.{span, step, rise, fall, moved, whole, target, ramped, byRule, command}
+use Rattle.terminals.proofs.Choices.{chosen}
+use Rattle.terminals.specs.Output.{isOn, isOff, turnedOn, turnedOff, rule, ruleOf, faultOf}
+use Rattle.terminals.specs.Output.{span, step, rise, fall, moved, target, ramped, byRule, command}
+use Rattle.signals.specs.Signal.{whole}
 use Rattle.signals.specs.declared.signal.Signal.{Signal}
 use Rattle.signals.specs.declared.signal.Signal.the-variants.{Whole, Absent}
 use Rattle.terminals.specs.declared.output.Settings.{Settings}
 use Rattle.numbers.proofs.OrderLaws.{below-le, ≤ℤ-trans, up, down}
 
 -- ---- for the code's own proofs
--- the bits of a whole number are 0 exactly where it is 0
-pub zero-bits : (v : ℤ) → SFits w16 v → eqb (ofZ w16 v) 0 ≡ isZero v
-unfolding isZero
-zero-bits (pos n) f = refl
-zero-bits (negsuc n) f = ne-eqb (65536 - suc n) 0 (λ e. omega (arith, f .sfits))
-
 -- the step never passes the width, so it fits where the width does
 pub step-small : (width ramp : ℕ) → width < 65536 → 0 < ramp → (width + (ramp - 1)) / ramp < 65536
 step-small width ramp h k = div-lt-iff-lt-mul k .1 (omega arith)
@@ -40,12 +33,6 @@ step-small width ramp h k = div-lt-iff-lt-mul k .1 (omega arith)
 pub record Within (low high z : ℤ) : Type 0 where
   pub from : low ≤ℤ z
   pub to : z ≤ℤ high
-
--- a choice lies where both its answers lie
-chosen : {A : Type 0} (P : A → Type 0) (test : Bool) (x y : A) → (test ≡ true → P x) → (test ≡ false → P y) → P (first test x y)
-unfolding first
-chosen P true x y p q = p refl
-chosen P false x y p q = q refl
 
 -- a move toward a number between two limits, from another between them, ends between them
 module _ {low high a b : ℤ} (wa : Within low high a) (wb : Within low high b) where

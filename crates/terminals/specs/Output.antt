@@ -8,9 +8,8 @@ use lib.Ieee.{eq, ofBits, binary32}
 use Rattle.numbers.specs.Choice.{first}
 use Rattle.numbers.specs.Limit.{limitWhole}
 use Rattle.numbers.specs.Line.{lineAt}
-use Rattle.numbers.specs.Nearest.{nearest16}
 use Rattle.numbers.specs.Order.{below}
-use Rattle.signals.specs.Signal.{isError, isAbsent}
+use Rattle.signals.specs.Signal.{isError, isAbsent, whole}
 use Rattle.terminals.specs.declared.output.Settings.{Settings}
 use Rattle.signals.specs.declared.signal.Signal.{Signal}
 use Rattle.signals.specs.declared.signal.Signal.the-variants.{Whole, Real, Error, Absent}
@@ -79,13 +78,6 @@ moved from to width up down =
     (first (eqb up 0) to (rise from to (step width up)))
     (first (eqb down 0) to (fall from to (step width down)))
 
--- "control (REAL32 as for tables)": its whole number. Rule 7 applies only where there is one.
-unfoldable pub whole : Signal → ℤ
-whole (Whole v) = v
-whole (Real x) = nearest16 x
-whole Error = pos 0
-whole Absent = pos 0
-
 -- "control .. limited to PV1..PV2, on the line to FV1..FV2"
 unfoldable pub target : Settings → ℤ → ℤ
 target s v = lineAt (s .pv1) (s .fv1) (s .pv2) (s .fv2) (limitWhole v (s .pv1) (s .pv2))
@@ -110,6 +102,6 @@ byRule n s v last =
 unfoldable pub ruleOf : Settings → Signal → Signal → Signal → ℕ
 ruleOf s control enable over = rule enable (s .«enable_response») over (s .«override_response») control
 
--- the command of one tick, by that rule
+-- the command of one tick, by that rule; "control (REAL32 as for tables)" by its whole number
 unfoldable pub command : Settings → Signal → Signal → Signal → ℤ → ℤ
 command s control enable over last = byRule (ruleOf s control enable over) s (whole control) last

@@ -2,9 +2,8 @@
 use crate::exact::difference;
 use crate::exact::sum;
 use crate::exact::wide;
-use numbers::limit::limit_whole;
 use numbers::line::Point;
-use numbers::line::line;
+use numbers::line::limited;
 use signals::signal::Signal;
 ghost use mathlib.Core.Path.{_≡_};
 ghost use Rattle.terminals.specs.Input.{within, out, runAfter, clears, kept, process, sensed};
@@ -90,15 +89,15 @@ fn keep(s: Settings, memory: Memory, sample: i16) -> Memory
     if (s.delay as u32) < run {
         return Memory { run, flagged: true };
     }
-    if does_clear(s, sample) {
+    if memory.flagged {
         return Memory {
             run,
-            flagged: false,
+            flagged: !does_clear(s, sample),
         };
     }
     Memory {
         run,
-        flagged: memory.flagged,
+        flagged: false,
     }
 }
 
@@ -107,7 +106,7 @@ fn scaled(s: Settings, sample: i16) -> i16
 {
     let low = Point { x: s.fv1, y: s.pv1 };
     let high = Point { x: s.fv2, y: s.pv2 };
-    line(low, high, limit_whole(sample, s.fv1, s.fv2))
+    limited(low, high, sample)
 }
 
 pub fn sense(settings: Settings, memory: Memory, sample: i16) -> Sensed

@@ -1,4 +1,4 @@
-// A current output: the rule that applies, and the command that it gives.
+// A current output: whether a signal turns it on or off, and the ramp to its target.
 use crate::exact::distance;
 use crate::exact::lowered;
 use crate::exact::narrow;
@@ -6,15 +6,15 @@ use crate::exact::raised;
 use crate::exact::wide;
 use numbers::limit::limit_whole;
 use numbers::line::Point;
-use numbers::line::line;
-use numbers::real::nearest;
-use signals::reading::absent;
-use signals::reading::failed;
+use numbers::line::limited;
 use signals::signal::Signal;
 ghost use mathlib.Core.Path.{_≡_};
+ghost use mathlib.Core.Bool.{not};
 ghost use Prim.Native.Nat.{_<_};
-ghost use Rattle.terminals.specs.Output.{isOn, isOff, turnedOn, turnedOff, rule};
-ghost use Rattle.terminals.specs.Output.{faultOf, span, step, rise, fall, moved, whole, target, ramped, byRule, command};
+ghost use lib.Dec.{eqb};
+ghost use Rattle.numbers.specs.Choice.{first};
+ghost use Rattle.terminals.specs.Output.{turnedOn, turnedOff};
+ghost use Rattle.terminals.specs.Output.{span, step, rise, fall, moved, target, ramped};
 
 pub struct Settings {
     pub enable_response: u8,
@@ -30,78 +30,37 @@ pub struct Settings {
     pub ramp_down: u16,
 }
 
-fn is_on(signal: Signal) -> bool
-    ensures { λ r. ⌜ r ≡ isOn signal ⌝ }
+// Response 1 turns on and off round.
+fn turned(response: u8, on: bool) -> bool
+    ensures { λ r. ⌜ r ≡ first (eqb response 1) (not on) on ⌝ }
 {
-    match signal {
-        Signal::Whole(v) => v != 0,
-        Signal::Real(x) => x != 0.0,
-        Signal::Error => false,
-        Signal::Absent => false,
+    if response == 1 {
+        return !on;
     }
+    on
 }
 
-fn is_off(signal: Signal) -> bool
-    ensures { λ r. ⌜ r ≡ isOff signal ⌝ }
-{
-    match signal {
-        Signal::Whole(v) => v == 0,
-        Signal::Real(x) => x == 0.0,
-        Signal::Error => false,
-        Signal::Absent => false,
-    }
-}
-
-fn is_turned_on(response: u8, signal: Signal) -> bool
+// Only a number is on or off.
+pub fn turned_on(response: u8, signal: Signal) -> bool
     ensures { λ r. ⌜ r ≡ turnedOn response signal ⌝ }
 {
-    if response == 1 {
-        return is_off(signal);
+    match signal {
+        Signal::Whole(v) => turned(response, v != 0),
+        Signal::Real(x) => turned(response, x != 0.0),
+        Signal::Error => false,
+        Signal::Absent => false,
     }
-    is_on(signal)
 }
 
-fn is_turned_off(response: u8, signal: Signal) -> bool
+pub fn turned_off(response: u8, signal: Signal) -> bool
     ensures { λ r. ⌜ r ≡ turnedOff response signal ⌝ }
 {
-    if response == 1 {
-        return is_on(signal);
+    match signal {
+        Signal::Whole(v) => turned(response, v == 0),
+        Signal::Real(x) => turned(response, x == 0.0),
+        Signal::Error => false,
+        Signal::Absent => false,
     }
-    is_off(signal)
-}
-
-// The number of the first rule that applies.
-fn ruled(enable: Signal, enabling: u8, over: Signal, overriding: u8, control: Signal) -> u8
-    ensures { λ r. ⌜ r ≡ rule enable enabling over overriding control ⌝ }
-{
-    if is_turned_off(enabling, enable) {
-        return 1;
-    }
-    if failed(enable) {
-        return 2;
-    }
-    if is_turned_on(overriding, over) {
-        return 3;
-    }
-    if failed(over) {
-        return 4;
-    }
-    if failed(control) {
-        return 5;
-    }
-    if absent(control) {
-        return 6;
-    }
-    7
-}
-
-fn fault(s: Settings, last: i16) -> i16
-    ensures { λ r. ⌜ r ≡ faultOf s last ⌝ }
-{
-    if s.fault_mode == 0 {
-        return last;
-    }
-    s.fault_fv
 }
 
 fn width(fv1: i16, fv2: i16) -> u32
@@ -165,51 +124,12 @@ fn aim(s: Settings, v: i16) -> i16
 {
     let low = Point { x: s.pv1, y: s.fv1 };
     let high = Point { x: s.pv2, y: s.fv2 };
-    line(low, high, limit_whole(v, s.pv1, s.pv2))
+    limited(low, high, v)
 }
 
-fn ramp(s: Settings, v: i16, last: i16) -> i16
+pub fn ramp(s: Settings, v: i16, last: i16) -> i16
     ensures { λ r. ⌜ r ≡ ramped s v last ⌝ }
 {
     let from = limit_whole(last, s.fv1, s.fv2);
     advance(from, aim(s, v), width(s.fv1, s.fv2), s.ramp_up, s.ramp_down)
-}
-
-fn number(signal: Signal) -> i16
-    ensures { λ r. ⌜ r ≡ whole signal ⌝ }
-{
-    match signal {
-        Signal::Whole(v) => v,
-        Signal::Real(x) => nearest(x),
-        Signal::Error => 0,
-        Signal::Absent => 0,
-    }
-}
-
-// What the rule of this number commands.
-fn obey(n: u8, s: Settings, control: Signal, last: i16) -> i16
-    ensures { λ r. ⌜ r ≡ byRule n s (whole control) last ⌝ }
-{
-    match n {
-        1 => 0,
-        2 => fault(s, last),
-        3 => s.override_fv,
-        4 => fault(s, last),
-        5 => fault(s, last),
-        6 => 0,
-        _ => ramp(s, number(control), last),
-    }
-}
-
-pub fn drive(settings: Settings, control: Signal, enable: Signal, over: Signal, last: i16) -> i16
-    ensures { λ r. ⌜ r ≡ command settings control enable over last ⌝ }
-{
-    let n = ruled(
-        enable,
-        settings.enable_response,
-        over,
-        settings.override_response,
-        control,
-    );
-    obey(n, settings, control, last)
 }

@@ -1,11 +1,12 @@
 -- One phase after the other.
-use Rattle.controller.specs.Tick.{each, registered, ticked}
-use Rattle.controller.specs.Sources.{State}
-use Rattle.controller.specs.Outputs.{outputTick}
-use Rattle.controller.specs.Logics.{logicTick}
-use Rattle.controller.specs.Tables.{tableTick}
-use Rattle.controller.specs.Maths.{mathTick}
+-- Assumes nothing.
 use mathlib.Core.Path.{ap, _∙_}
+use Rattle.unit.specs.Each.{each}
+use Rattle.turns.specs.Maths.{mathTurn}
+use Rattle.turns.specs.Tables.{tableTurn}
+use Rattle.turns.specs.Logics.{logicTurn}
+use Rattle.ports.specs.Outputs.{outputTurn}
+use Rattle.controller.specs.Tick.{registered, ticked}
 use borrow.Author.Needs.{needs}
 use Rattle.controller.proofs.tick.tick.Statement.{statement}
 use Rattle.controller.proofs.tick.tick.Tie as tie
@@ -30,14 +31,13 @@ register-requires c κs = search needs
 
 returns : tie.Need-returns
 unfolding ticked
-returns c = let whole =
-    c .register .ensures _
-    ∙ ap registered (c .before .before .outputs .ensures _
-    ∙ ap (each 4 outputTick) (c .before .before .before .before .logics .ensures _
-    ∙ ap (each 2 logicTick) (c .before .before .before .before .before .before .tables .ensures _
-    ∙ ap (each 6 tableTick) (c .before .before .before .before .before .before .before .before .maths .ensures _
-    ∙ ap (each 4 mathTick) (c .before .before .before .before .before .before .before .before .before .before .before .before .inputs .ensures))))) in
-    record { memory = ap (λ (s : State). s .words) whole; remembers = ap (λ (s : State). s .live) whole }
+returns c =
+    c .register .ensures
+    ∙ ap registered (c .before .before .outputs .ensures
+    ∙ ap (each 4 outputTurn) (c .before .before .before .before .logics .ensures
+    ∙ ap (each 2 logicTurn) (c .before .before .before .before .before .before .tables .ensures
+    ∙ ap (each 6 tableTurn) (c .before .before .before .before .before .before .before .before .maths .ensures
+    ∙ ap (each 4 mathTurn) (c .before .before .before .before .before .before .before .before .before .before .inputs .ensures)))))
 
 pub tick-spec : {M : Type 1} → statement M
 tick-spec =

@@ -2,17 +2,13 @@
 -- Assumes nothing.
 use native.Mathlib.Omega.{arith}
 use borrow.Author.Needs.{needs}
-use Rattle.dictionary.proofs.NameLaws.{constants-fixed, constants-value, constants-none}
-use Rattle.dictionary.specs.Names.{named, largest, at-sub}
-use Rattle.dictionary.specs.Objects.{meant}
-use Rattle.numbers.proofs.Tests.{tests}
-use Rattle.numbers.specs.Choice.{first}
+use Rattle.dictionary.proofs.NameLaws.{constants-count, constants-fixed, constants-value, constants-none}
+use Rattle.dictionary.specs.Names.{slot-of}
 use Rattle.dictionary.proofs.names.in_constants.Statement.{statement}
 use Rattle.dictionary.proofs.names.in_constants.Tie as tie
 
 returns : tie.Need-returns
-unfolding named meant largest at-sub first
-returns c = search tests
+returns c = constants-count _ (c .if1 .taken)
 
 sub-t4 : tie.Need-sub-t4
 sub-t4 c = search needs
@@ -21,6 +17,7 @@ add-t5 : tie.Need-add-t5
 add-t5 c = search needs
 
 returns-2 : tie.Need-returns-2
+unfolding slot-of
 returns-2 c = constants-fixed _ (λ e. omega arith) (omega arith)
 
 sub-t7 : tie.Need-sub-t7
@@ -30,6 +27,7 @@ add-t8 : tie.Need-add-t8
 add-t8 c = search needs
 
 returns-3 : tie.Need-returns-3
+unfolding slot-of
 returns-3 c = constants-value _ (omega arith) (omega arith)
 
 returns-4 : tie.Need-returns-4

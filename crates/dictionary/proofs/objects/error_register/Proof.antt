@@ -1,20 +1,21 @@
--- `dictionary::objects::error_register` meets its contract: each return is what the rule by digits has for the index (`Families`).
+-- `dictionary::objects::error_register` meets its contract: each arm has its row, and the arms are all rows that begin so (`Families`).
 -- Assumes nothing.
+use mathlib.Core.Path.{refl}
 use native.Mathlib.Omega.{arith}
-use lib.Dec.{lit<}
-use Rattle.dictionary.proofs.Families.{rows-by-digits, by-digits, below-3000, error-register}
-use Rattle.numbers.proofs.Tests.{tests}
 use Rattle.numbers.specs.Choice.{first}
+use Rattle.dictionary.specs.Names.{stretches, with-index}
+use Rattle.dictionary.specs.Objects.{meant}
+use Rattle.dictionary.proofs.Families.{here, no-row, with-part, last-digits}
 use Rattle.dictionary.proofs.objects.error_register.Statement.{statement}
 use Rattle.dictionary.proofs.objects.error_register.Tie as tie
 
 returns : tie.Need-returns
-unfolding by-digits below-3000 error-register first
-returns c = rows-by-digits 0x10 _ (lit< tt) (omega arith) _ (search tests)
+unfolding stretches with-index meant first
+returns c = here 0x1000 (c .match .keys1) refl
 
 returns-2 : tie.Need-returns-2
-unfolding by-digits below-3000 error-register first
-returns-2 c = rows-by-digits 0x10 _ (lit< tt) (omega arith) _ (search tests)
+unfolding stretches with-part last-digits first
+returns-2 c = no-row 0x10 _ (omega arith) (c .match .rest)
 
 pub error-register-spec : {M : Type 1} → statement M
 error-register-spec = tie.close (tie.spec returns returns-2)

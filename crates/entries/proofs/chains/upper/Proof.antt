@@ -1,51 +1,102 @@
--- `entries::chains::upper` meets its contract: each return is the neighbour that the slot's place tells (`LinkLaws`).
+-- `entries::chains::upper` meets its contract: a role has its neighbours at fixed distances (`KeyLaws`).
 -- Assumes nothing.
+use mathlib.Core.Path.{refl}
+use native.Mathlib.Omega.{arith}
 use borrow.Author.Needs.{needs}
-use Rattle.entries.proofs.LinkLaws.{upper-by-slot, of-upper}
-use Rattle.numbers.proofs.Tests.{tests}
 use Rattle.numbers.specs.Choice.{first}
+use Rattle.entries.specs.Judge.{before}
+use Rattle.entries.specs.Roles.{uppers, chosen}
+use Rattle.entries.proofs.KeyLaws.{keys, above, none-above}
 use Rattle.entries.proofs.chains.upper.Statement.{statement}
 use Rattle.entries.proofs.chains.upper.Tie as tie
 
-upper-before-logic-requires : tie.Need-upper-before-logic-requires
-upper-before-logic-requires c κs = search needs
+add-t4 : tie.Need-add-t4
+add-t4 c = let near = c .before .pre .near (omega arith) in let low = near .0 in let high = near .1 in search needs
+
+add-t5 : tie.Need-add-t5
+add-t5 c = let near = c .before .pre .near (omega arith) in let low = near .0 in let high = near .1 in search needs
+
+add-t6 : tie.Need-add-t6
+add-t6 c = let near = c .before .pre .near (omega arith) in let low = near .0 in let high = near .1 in search needs
+
+add-t7 : tie.Need-add-t7
+add-t7 c = let near = c .before .pre .near (omega arith) in let low = near .0 in let high = near .1 in search needs
+
+add-t8 : tie.Need-add-t8
+add-t8 c = let near = c .before .pre .near (omega arith) in let low = near .0 in let high = near .1 in search needs
+
+add-t9 : tie.Need-add-t9
+add-t9 c = let near = c .before .pre .near (omega arith) in let low = near .0 in let high = near .1 in search needs
+
+add-t10 : tie.Need-add-t10
+add-t10 c = let near = c .before .pre .near (omega arith) in let low = near .0 in let high = near .1 in search needs
+
+add-t11 : tie.Need-add-t11
+add-t11 c = let near = c .before .pre .near (omega arith) in let low = near .0 in let high = near .1 in search needs
+
+sub-t12 : tie.Need-sub-t12
+sub-t12 c = let near = c .before .pre .near (omega arith) in let low = near .0 in let high = near .1 in search needs
 
 returns : tie.Need-returns
-returns c = search needs
-
-upper-in-math-requires : tie.Need-upper-in-math-requires
-upper-in-math-requires c κs = search needs
+unfolding uppers chosen first
+returns c = above _ (c .before .pre) (c .match .keys1) refl
 
 returns-2 : tie.Need-returns-2
-returns-2 c = search needs
-
-upper-of-input-requires : tie.Need-upper-of-input-requires
-upper-of-input-requires c κs = search needs
+unfolding uppers chosen first
+returns-2 c = above _ (c .before .pre) (c .match .keys2) refl
 
 returns-3 : tie.Need-returns-3
-returns-3 c = search needs
-
-add-t3 : tie.Need-add-t3
-add-t3 c = search needs
+unfolding uppers chosen first
+returns-3 c = above _ (c .before .pre) (c .match .keys3) refl
 
 returns-4 : tie.Need-returns-4
-unfolding upper-by-slot first
-returns-4 c = of-upper _ (search tests)
+unfolding uppers chosen first
+returns-4 c = above _ (c .before .pre) (c .match .keys4) refl
 
 returns-5 : tie.Need-returns-5
-unfolding upper-by-slot first
-returns-5 c = of-upper _ (search tests)
+unfolding uppers chosen first
+returns-5 c = above _ (c .before .pre) (c .match .keys5) refl
+
+returns-6 : tie.Need-returns-6
+unfolding uppers chosen first
+returns-6 c = above _ (c .before .pre) (c .match .keys6) refl
+
+returns-7 : tie.Need-returns-7
+unfolding uppers chosen first
+returns-7 c = above _ (c .before .pre) (c .match .keys7) refl
+
+returns-8 : tie.Need-returns-8
+unfolding uppers chosen first
+returns-8 c = above _ (c .before .pre) (c .match .keys8) refl
+
+returns-9 : tie.Need-returns-9
+unfolding uppers chosen first
+returns-9 c = above _ (c .before .pre) (c .match .keys9) refl
+
+returns-10 : tie.Need-returns-10
+unfolding uppers keys
+returns-10 c = none-above (c .before .pre) (c .match .rest)
 
 pub upper-spec : {M : Type 1} → statement M
 upper-spec =
     tie.close
     (tie.spec
-    upper-before-logic-requires
+    add-t4
+    add-t5
+    add-t6
+    add-t7
+    add-t8
+    add-t9
+    add-t10
+    add-t11
+    sub-t12
     returns
-    upper-in-math-requires
     returns-2
-    upper-of-input-requires
     returns-3
-    add-t3
     returns-4
-    returns-5)
+    returns-5
+    returns-6
+    returns-7
+    returns-8
+    returns-9
+    returns-10)

@@ -1,8 +1,9 @@
 -- By the verb.
+-- Assumes nothing.
 use mathlib.Core.Path.{refl}
+use borrow.Author.Needs.{needs}
 use Rattle.printer.specs.Answering.{served, unheard}
 use Rattle.printer.proofs.Replies.{told, framed, timed, unknown}
-use borrow.Author.Needs.{needs}
 use Rattle.printer.proofs.answering.answer.Statement.{statement}
 use Rattle.printer.proofs.answering.answer.Tie as tie
 
@@ -34,7 +35,7 @@ returns : tie.Need-returns
 unfolding served
 returns c =
     told (framed _ _ _ (c .before .before .before .before .before .before .before .before .read .ensures) (c .before .before .before .before .enum-told .given .1))
-    (record { memory = c .serve-frame .ensures .0; remembers = refl; print = c .serve-frame .ensures .1 })
+    (record { left = c .serve-frame .ensures .0; print = c .serve-frame .ensures .1 })
 
 returns-2 : tie.Need-returns-2
 returns-2 c = told (timed _ _ _ (c .before .before .before .before .before .before .before .read .ensures) (c .before .before .before .enum-told2 .given .1)) (c .take-tick .ensures)
@@ -43,7 +44,7 @@ returns-3 : tie.Need-returns-3
 unfolding unheard
 returns-3 c =
     told (unknown _ _ _ (c .before .before .before .before .before .before .read .ensures) (c .before .before .enum-told3 .given .1))
-    (record { memory = refl; remembers = refl; print = c .show-unknown .ensures })
+    (record { left = refl; print = c .show-unknown .ensures })
 
 pub answer-spec : {M : Type 1} → statement M
 answer-spec =

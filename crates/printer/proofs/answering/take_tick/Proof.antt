@@ -1,8 +1,9 @@
 -- What the tick leaves is shown.
+-- Assumes nothing.
 use mathlib.Core.Path.{ap}
+use borrow.Author.Needs.{needs}
 use Rattle.printer.specs.Answering.{sampled, stateLine}
 use Rattle.printer.proofs.Replies.{prints}
-use borrow.Author.Needs.{needs}
 use Rattle.printer.proofs.answering.take_tick.Statement.{statement}
 use Rattle.printer.proofs.answering.take_tick.Tie as tie
 
@@ -16,7 +17,7 @@ returns : tie.Need-returns
 unfolding sampled
 returns c =
     let t = c .before .before .before .tick .ensures in
-    record { memory = t .memory; remembers = t .remembers; print = prints (ap stateLine (t .memory)) (c .show-state .ensures) }
+    record { left = t; print = prints (ap stateLine t) (c .show-state .ensures) }
 
 pub take-tick-spec : {M : Type 1} → statement M
 take-tick-spec = tie.close (tie.spec tick-requires show-state-requires returns)

@@ -14,9 +14,6 @@ enum-known-answer c = search needs
 returns : tie.Need-returns
 returns c = unwritten _ _ (c .match .keys2)
 
-cast-at : tie.Need-cast-at
-cast-at c = search needs
-
 mul-words : tie.Need-mul-words
 mul-words c = search needs
 
@@ -40,7 +37,6 @@ keep-spec =
     (tie.spec
     enum-known-answer
     returns
-    cast-at
     mul-words
     slice-write-words
     same-length

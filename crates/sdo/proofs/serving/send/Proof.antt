@@ -22,20 +22,14 @@ respond-requires c κs = c .before .before .before .before .before .before .befo
 enum-known-answer-2 : tie.Need-enum-known-answer-2
 enum-known-answer-2 c = search needs
 
-read-head-requires : tie.Need-read-head-requires
-read-head-requires c κs = search needs
-
-cut-to-requires : tie.Need-cut-to-requires
-cut-to-requires c κs = search needs
-
-respond-requires-2 : tie.Need-respond-requires-2
-respond-requires-2 c κs = c .before .before .before .before .before .before .before .before .pre (value-speaks [] [] _ _ _ (c .before .before .before .before .answer2 .given .1))
+show-requires : tie.Need-show-requires
+show-requires c κs = c .before .before .before .before .before .before .pre (value-speaks [] [] _ _ _ (c .before .before .answer2 .given .1))
 
 enum-told-2 : tie.Need-enum-told-2
 enum-told-2 c = search needs
 
-respond-requires-3 : tie.Need-respond-requires-3
-respond-requires-3 c κs = c .before .before .before .before .before .pre (written-speaks [] [] _ _ _ (c .before .enum-told2 .given .1))
+respond-requires-2 : tie.Need-respond-requires-2
+respond-requires-2 c κs = c .before .before .before .before .before .pre (written-speaks [] [] _ _ _ (c .before .enum-told2 .given .1))
 
 returns : tie.Need-returns
 returns c = sent-nothing _ _ _ (c .enum-told .given .1)
@@ -50,13 +44,13 @@ same-length-2 : tie.Need-same-length-2
 same-length-2 c = search needs
 
 returns-3 : tie.Need-returns-3
-returns-3 c = c .before .before .respond2 .ensures ∙ sent-value _ _ _ _ _ _ _ (c .before .before .before .before .before .before .before .answer2 .given .1) (c .before .before .before .before .read-head .ensures) (c .before .before .before .cut-to .ensures)
+returns-3 c = c .before .before .show .ensures ∙ sent-value _ _ _ _ _ (c .before .before .before .before .before .answer2 .given .1)
 
 same-length-3 : tie.Need-same-length-3
 same-length-3 c = search needs
 
 returns-4 : tie.Need-returns-4
-returns-4 c = c .before .before .respond3 .ensures ∙ sent-written _ _ _ _ _ (c .before .before .before .before .enum-told2 .given .1)
+returns-4 c = c .before .before .respond2 .ensures ∙ sent-written _ _ _ _ _ (c .before .before .before .before .enum-told2 .given .1)
 
 pub send-spec : {M : Type 1} → statement M
 send-spec =
@@ -67,11 +61,9 @@ send-spec =
     code-of-requires
     respond-requires
     enum-known-answer-2
-    read-head-requires
-    cut-to-requires
-    respond-requires-2
+    show-requires
     enum-told-2
-    respond-requires-3
+    respond-requires-2
     returns
     same-length
     returns-2

@@ -1,28 +1,18 @@
--- The limit and the line, read through their calls.
-use borrow.Author.Needs.{needs}
-use mir.Syntax.{w16}
-use mir.Val.{SFits}
+-- The line of a limited number, read through the call that gives it.
+-- Assumes nothing.
 use Rattle.terminals.specs.Output.{target}
-use Rattle.numbers.proofs.ExactLaws.{scaled-is}
+use Rattle.terminals.proofs.LineCalls.{limited-is}
+use borrow.Author.Needs.{needs}
 use Rattle.terminals.proofs.output.aim.Statement.{statement}
 use Rattle.terminals.proofs.output.aim.Tie as tie
 
-limit-whole-requires : tie.Need-limit-whole-requires
-limit-whole-requires c κs = search needs
-
-line-requires : tie.Need-line-requires
-line-requires c κs = search needs
+limited-requires : tie.Need-limited-requires
+limited-requires c κs = search needs
 
 returns : tie.Need-returns
 unfolding target
 returns c =
-    let a = c .before .before .before .before .before .before .args in
-    let x1 : SFits w16 (a .s .pv1) = search needs in
-    let y1 : SFits w16 (a .s .fv1) = search needs in
-    let x2 : SFits w16 (a .s .pv2) = search needs in
-    let y2 : SFits w16 (a .s .fv2) = search needs in
-    let v : SFits w16 (a .v) = search needs in
-    scaled-is x1 y1 x2 y2 v (c .before .limit-whole .ok) (c .before .limit-whole .ensures) (c .line .ok) (c .line .ensures)
+    limited-is (c .limited .ok) (c .limited .ensures) (search needs) (search needs) (search needs) (search needs) (search needs)
 
 pub aim-spec : {M : Type 1} → statement M
-aim-spec = tie.close (tie.spec limit-whole-requires line-requires returns)
+aim-spec = tie.close (tie.spec limited-requires returns)

@@ -1,5 +1,4 @@
 -- The limited last command, the target and the width, read through their calls.
-use mathlib.Core.Path.{_∙_}
 use mir.Syntax.{w16}
 use mir.Val.{SFits}
 use mir.Facts.{toZ-ofZ}
@@ -40,7 +39,7 @@ returns c =
     let from = back (l .limit-whole .ok) (l .limit-whole .ensures) in
     let to = back (m .aim .ok) (m .aim .ensures) in
     back (c .advance .ok)
-    (c .advance .ensures ∙ rw (from, to, w .width .ensures .0, toZ-ofZ fv1, toZ-ofZ fv2, toZ-ofZ (s .fits .v), toZ-ofZ (s .fits .last)))
+    (rw (from, to, w .width .ensures .0, toZ-ofZ fv1, toZ-ofZ fv2, toZ-ofZ (s .fits .v), toZ-ofZ (s .fits .last)) at (c .advance .ensures))
 
 pub ramp-spec : {M : Type 1} → statement M
 ramp-spec =

@@ -1,0 +1,2 @@
+// How an answer of the session is printed.
+pub mod printing;

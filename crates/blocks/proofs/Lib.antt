@@ -1,4 +1,0 @@
-pub mod LogicLaws
-pub mod MathExample
-pub mod MathLaws
-pub mod TableLaws

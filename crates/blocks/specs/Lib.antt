@@ -1,4 +1,0 @@
-pub mod Fold
-pub mod Logic
-pub mod Math
-pub mod Table

@@ -1,0 +1,2 @@
+// What a line of the session asks for.
+pub mod reading;

@@ -1,0 +1,2 @@
+pub mod MathExample
+pub mod MathLaws

@@ -1,0 +1,3 @@
+pub mod Logics
+pub mod Maths
+pub mod Tables

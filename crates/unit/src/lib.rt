@@ -1,0 +1,5 @@
+// The unit as the blocks of a tick use it: its words by their types, the signals that it keeps, and what a source names.
+mod held;
+pub mod laying;
+pub mod sources;
+pub mod words;
