@@ -1,0 +1,8 @@
+/* A side that does nothing: what is left of a run is the driver's own. Each call is one instruction. */
+#include <stddef.h>
+#include <stdint.h>
+
+void empty_start(uint32_t *unit);
+int32_t empty_serve(uint32_t *unit, const uint8_t *frame, size_t frame_length, uint8_t *reply, size_t reply_length);
+void empty_tick(uint32_t *unit, const int16_t *samples);
+__asm__("empty_start: empty_serve: empty_tick: ret");

@@ -1,0 +1,6 @@
+/* The kit has a compiler and no headers; this is what bench/ needs of C's. */
+#ifndef STDDEF_H
+#define STDDEF_H
+typedef __SIZE_TYPE__ size_t;
+#define offsetof(type, member) __builtin_offsetof(type, member)
+#endif

@@ -1,0 +1,385 @@
+/* The controller of document 01 in plain C, as a firmware engineer would write it: const rows found by halving, one struct, no
+   allocation, and nothing looked up that cannot matter. bench/count holds the Rattle code's instruction counts against it. */
+#include "plain.h"
+#include "plain_rows.h"
+
+/* ---- The dictionary */
+
+/* The last row that does not stand behind the name. */
+static const struct row *find(uint32_t name)
+{
+    const struct row *row = rows;
+    for (size_t n = ROWS; n > 1; n -= n / 2)
+        if (row[n / 2].name <= name)
+            row += n / 2;
+    return row;
+}
+
+static int32_t word_at(const struct plain *s, int32_t at)
+{
+    int32_t word;
+    __builtin_memcpy(&word, (const char *)s + 4 * at, 4);
+    return word;
+}
+
+static void set_word(struct plain *s, int32_t at, int32_t word) { __builtin_memcpy((char *)s + 4 * at, &word, 4); }
+
+void plain_start(struct plain *s)
+{
+    __builtin_memset(s, 0, sizeof *s);
+    for (size_t r = 0; r < ROWS; r++) {
+        const struct row *row = &rows[r];
+        int32_t first = row->name & 0xFF, value = row->start;
+        for (int32_t sub = first == 0 && row->largest ? 1 : first; sub <= row->last; sub++, value += row->step)
+            set_word(s, row->word + sub, value);
+    }
+    s->constant[1] = 1.0f;
+}
+
+/* ---- Frames */
+
+static uint32_t load32(const uint8_t *p) { return p[0] | p[1] << 8 | p[2] << 16 | (uint32_t)p[3] << 24; }
+
+static void store32(uint8_t *p, uint32_t v)
+{
+    p[0] = v;
+    p[1] = v >> 8;
+    p[2] = v >> 16;
+    p[3] = v >> 24;
+}
+
+/* The value that the data bytes have in the row's type. */
+static int32_t decoded(enum type type, uint32_t data)
+{
+    switch (type) {
+    case U8: return (uint8_t)data;
+    case U16: return (uint16_t)data;
+    case I16: return (int16_t)data;
+    default: return (int32_t)data;
+    }
+}
+
+/* The abort code of rows 5 to 9, or 0 where the write was done. */
+static uint32_t write(struct plain *s, const struct row *row, uint32_t sub, uint32_t size, uint32_t data)
+{
+    int32_t at = row->word + (int32_t)sub, value;
+    if (row->fixed || (sub == 0 && row->largest))
+        return 0x06010002;
+    if (size != types[row->type].size)
+        return size > types[row->type].size ? 0x06070012 : 0x06070013;
+    value = decoded(row->type, data);
+    if (row->type == R32 && (data & 0x7F800000) == 0x7F800000)
+        return 0x06090030;
+    if (value > row->high)
+        return 0x06090031;
+    if (value < row->low)
+        return 0x06090032;
+    if (row->above && value + row->above_gap > word_at(s, at + row->above))
+        return 0x06090031;
+    if (row->below && value - row->below_gap < word_at(s, at + row->below))
+        return 0x06090032;
+    set_word(s, at, value);
+    return 0;
+}
+
+static int32_t reply_with(uint8_t *reply, uint32_t command, uint32_t name, uint32_t data)
+{
+    store32(reply, command | name);
+    store32(reply + 4, data);
+    return 8;
+}
+
+int32_t plain_serve(struct plain *s, const uint8_t *frame, size_t frame_length, uint8_t *reply, size_t reply_length)
+{
+    const struct row *row;
+    uint32_t head, command, name, sub, code;
+    if (frame_length != 8 || reply_length < 8 || frame[0] == 0x80)
+        return 0;
+    head = load32(frame);
+    command = head & 0xFF;
+    name = head & 0xFFFFFF00; /* as it stands in a reply */
+    sub = head >> 24;
+    /* 23h, 27h, 2Bh, 2Fh write 4, 3, 2, 1 bytes */
+    if (command != 0x40 && (command & 0xF3) != 0x23)
+        return reply_with(reply, 0x80, name, 0x05040001);
+    row = find((head & 0xFFFF00) | sub);
+    if (row->name >> 8 != (head >> 8 & 0xFFFF))
+        return reply_with(reply, 0x80, name, 0x06020000);
+    if (sub > row->last)
+        return reply_with(reply, 0x80, name, 0x06090011);
+    if (command == 0x40) {
+        if (sub == 0 && row->largest)
+            return reply_with(reply, 0x4F, name, row->largest);
+        return reply_with(reply, types[row->type].read, name, word_at(s, row->word + (int32_t)sub) & types[row->type].mask);
+    }
+    code = write(s, row, sub, 4 - (command >> 2 & 3), load32(frame + 4));
+    return reply_with(reply, code ? 0x80 : 0x60, name, code);
+}
+
+/* ---- Numbers and signals */
+
+static int32_t limit(int32_t value, int32_t low, int32_t high) { return value < low ? low : value > high ? high : value; }
+
+static float limit_real(float value, float low, float high) { return value < low ? low : value > high ? high : value; }
+
+/* The line through (x1, y1) and (x2, y2), x1 < x2: the value to nearest, halves away from zero. */
+static int32_t line(int32_t x, int32_t x1, int32_t y1, int32_t x2, int32_t y2)
+{
+    int64_t run = x2 - x1, value = y1 * run + (int64_t)(x - x1) * (y2 - y1);
+    return (int32_t)((2 * value + (value < 0 ? -run : run)) / (2 * run));
+}
+
+static struct signal whole(int32_t number) { return (struct signal){.kind = WHOLE, .whole = number}; }
+
+static struct signal real(float number) { return (struct signal){.kind = REAL, .real = number}; }
+
+static const struct signal absent = {.kind = ABSENT}, fault = {.kind = FAULT};
+
+static struct signal signal_of(const struct plain *s, int32_t source, int32_t number)
+{
+    uint32_t at = (uint32_t)number - 1;
+    switch (source) {
+    case 1: return at < 12 ? whole(s->ec[at]) : absent;
+    case 2: return at < 4 ? s->input_signal[at] : absent;
+    case 3: return at < 6 ? s->table_signal[at] : absent;
+    case 4: return at < 2 ? s->logic_signal[at] : absent;
+    case 5: return at < 4 ? s->math_signal[at] : absent;
+    case 6: return at < 15 ? real(s->constant[at]) : absent;
+    default: return absent;
+    }
+}
+
+static float real32(struct signal v) { return v.kind == WHOLE ? (float)v.whole : v.real; }
+
+/* To nearest, halves away from zero; doubling is exact. */
+static int32_t integer16(struct signal v)
+{
+    int32_t halves;
+    if (v.kind == WHOLE)
+        return v.whole;
+    halves = (int32_t)(limit_real(v.real, -32768.0f, 32767.0f) * 2.0f);
+    return (halves + (halves < 0 ? -1 : 1)) / 2;
+}
+
+/* ---- One tick */
+
+static void watch(struct plain *s, int k, int32_t sample)
+{
+    int32_t start = s->span_start[k], end = s->span_end[k];
+    if (!s->detect[k]) {
+        s->run[k] = 0;
+        s->flagged[k] = 0;
+    } else if (sample < start || sample > end) {
+        if (s->run[k] < 65536) /* beyond every delay */
+            s->run[k]++;
+        if (s->run[k] > s->delay[k])
+            s->flagged[k] = 1;
+    } else {
+        s->run[k] = 0;
+        if (s->flagged[k] && start + s->hysteresis[k] <= sample && sample <= end - s->hysteresis[k])
+            s->flagged[k] = 0;
+    }
+}
+
+static void input(struct plain *s, int k, int32_t sample)
+{
+    s->sample[k] = sample;
+    watch(s, k, sample);
+    if (s->flagged[k]) {
+        s->input_signal[k] = fault;
+        s->pv[k] = 0;
+        return;
+    }
+    s->pv[k] = line(limit(sample, s->fv1[k], s->fv2[k]), s->fv1[k], s->pv1[k], s->fv2[k], s->pv2[k]);
+    s->input_signal[k] = whole(s->pv[k]);
+}
+
+static float operand(const struct math *m, int i, struct signal v)
+{
+    float part = (real32(v) - (float)m->from[i]) / (float)(m->to[i] - m->from[i]);
+    return limit_real(part, 0.0f, 1.0f) * ((float)m->gain[i] / 100.0f);
+}
+
+static struct signal folded(const struct math *m, const struct signal in[4], float low, float high)
+{
+    float run = operand(m, 0, in[0]);
+    for (int i = 1; i < 4; i++) {
+        float next;
+        if (in[i].kind == ABSENT)
+            continue;
+        next = operand(m, i, in[i]);
+        switch (m->operator[i - 1]) {
+        case 0: run += next; break;
+        case 1: run -= next; break;
+        case 2: run *= next; break;
+        case 3:
+            if (next == 0.0f)
+                return fault;
+            run /= next;
+            break;
+        case 4: run = next < run ? next : run; break;
+        default: run = next > run ? next : run; break;
+        }
+        run = limit_real(run, -1.0f, 1.0f);
+    }
+    return real(limit_real(limit_real(run, 0.0f, 1.0f) * (high - low) + low, low, high));
+}
+
+static struct signal calculated(const struct plain *s, int k)
+{
+    const struct math *m = &s->math[k];
+    struct signal in[4];
+    int faults = 0;
+    if (!s->math_enable[k])
+        return absent;
+    for (int i = 0; i < 4; i++) {
+        in[i] = signal_of(s, m->source[i], m->number[i]);
+        if (i == 0 && in[0].kind == ABSENT)
+            return absent;
+        faults |= in[i].kind == FAULT;
+    }
+    return faults ? fault : folded(m, in, (float)s->math_from[k], (float)s->math_to[k]);
+}
+
+static int32_t curve(const struct table *t, int32_t x)
+{
+    int i;
+    if (x <= t->x[0])
+        return t->y[0];
+    for (i = 1; i < 11 && t->response[i]; i++)
+        if (x <= t->x[i])
+            return t->response[i] == 2 ? t->y[i] : line(x, t->x[i - 1], t->y[i - 1], t->x[i], t->y[i]);
+    return t->y[i - 1];
+}
+
+static void table(struct plain *s, int z)
+{
+    struct table *t = &s->table[z];
+    struct signal x = signal_of(s, t->source, t->number);
+    if (x.kind < WHOLE) {
+        s->table_signal[z] = x;
+        t->value = 0;
+        return;
+    }
+    t->value = curve(t, integer16(x));
+    s->table_signal[z] = whole(t->value);
+}
+
+enum verdict { FALSE, TRUE, ERROR, NA };
+
+static enum verdict judged(const struct plain *s, const struct condition *c)
+{
+    struct signal one = signal_of(s, c->source1, c->number1), two;
+    float a, b;
+    if (one.kind == ABSENT)
+        return NA;
+    two = signal_of(s, c->source2, c->number2);
+    if (two.kind == ABSENT)
+        return NA;
+    if (one.kind == FAULT || two.kind == FAULT)
+        return ERROR;
+    a = real32(one);
+    b = real32(two);
+    switch (c->comparison) {
+    case 0: return a == b;
+    case 1: return a != b;
+    case 2: return a > b;
+    case 3: return a >= b;
+    case 4: return a < b;
+    default: return a <= b;
+    }
+}
+
+static int is_true(const struct plain *s, const struct condition *c) { return judged(s, c) == TRUE; }
+
+static int allows(const struct plain *s, const struct condition *c)
+{
+    enum verdict v = judged(s, c);
+    return v == TRUE || v == NA;
+}
+
+static int holds(const struct plain *s, int32_t operator, const struct condition *c)
+{
+    switch (operator) {
+    case 0: return 1;
+    case 1: return allows(s, c) && allows(s, c + 1) && allows(s, c + 2);
+    case 2: return is_true(s, c) || is_true(s, c + 1) || is_true(s, c + 2);
+    case 3: return (is_true(s, c) && is_true(s, c + 1)) || is_true(s, c + 2);
+    default: return (is_true(s, c) || is_true(s, c + 1)) && is_true(s, c + 2);
+    }
+}
+
+/* The number of the selected table, 0 for none. */
+static int32_t selected(const struct plain *s, int x)
+{
+    const struct logic *l = &s->logic[x];
+    if (s->logic_enable[x])
+        for (int letter = 0; letter < 3; letter++)
+            if (holds(s, l->operator[letter], &l->condition[3 * letter]))
+                return l->table[letter];
+    return 0;
+}
+
+static void logic(struct plain *s, int x)
+{
+    int32_t number = selected(s, x);
+    struct signal v = number ? s->table_signal[number - 1] : absent;
+    s->selected[x] = number;
+    s->logic_signal[x] = v;
+    s->logic_value[x] = v.kind == WHOLE ? v.whole : 0;
+}
+
+/* Response 1 turns on and off round. */
+static int is_on(struct signal v, int32_t response)
+{
+    return (v.kind == WHOLE ? v.whole != 0 : v.real != 0.0f) != (response == 1);
+}
+
+static int32_t at_fault(const struct plain *s, int k) { return s->fault_mode[k] ? s->fault_fv[k] : s->command[k]; }
+
+static int32_t ramped(const struct plain *s, int k, int32_t control)
+{
+    int32_t fv1 = s->out_fv1[k], fv2 = s->out_fv2[k], pv1 = s->out_pv1[k], pv2 = s->out_pv2[k];
+    int32_t target = line(limit(control, pv1, pv2), pv1, fv1, pv2, fv2);
+    int32_t last = limit(s->command[k], fv1, fv2);
+    int32_t ramp = target > last ? s->ramp_up[k] : s->ramp_down[k], step;
+    if (ramp == 0)
+        return target;
+    step = (fv2 - fv1 + ramp - 1) / ramp;
+    return limit(target, last - step, last + step);
+}
+
+static int32_t commanded(const struct plain *s, int k)
+{
+    struct signal v = signal_of(s, s->enable_source[k], s->enable_number[k]);
+    if (v.kind == FAULT)
+        return at_fault(s, k);
+    if (v.kind != ABSENT && !is_on(v, s->enable_response[k]))
+        return 0;
+    v = signal_of(s, s->override_source[k], s->override_number[k]);
+    if (v.kind == FAULT)
+        return at_fault(s, k);
+    if (v.kind != ABSENT && is_on(v, s->override_response[k]))
+        return s->override_fv[k];
+    v = signal_of(s, s->control_source[k], s->control_number[k]);
+    if (v.kind == FAULT)
+        return at_fault(s, k);
+    return v.kind == ABSENT ? 0 : ramped(s, k, integer16(v));
+}
+
+void plain_tick(struct plain *s, const int16_t *samples)
+{
+    for (int k = 0; k < 4; k++)
+        input(s, k, samples[k]);
+    for (int k = 0; k < 4; k++) {
+        s->math_signal[k] = calculated(s, k);
+        s->math_value[k] = s->math_signal[k].kind == REAL ? s->math_signal[k].real : 0.0f;
+    }
+    for (int z = 0; z < 6; z++)
+        table(s, z);
+    for (int x = 0; x < 2; x++)
+        logic(s, x);
+    for (int k = 0; k < 4; k++)
+        s->command[k] = commanded(s, k);
+    s->error_register = s->flagged[0] || s->flagged[1] || s->flagged[2] || s->flagged[3] ? 0x21 : 0;
+}

@@ -1,0 +1,62 @@
+/* The controller of document 01 in plain C: its state and its three calls, as crates/firmware/valve.h has them. */
+#ifndef PLAIN_H
+#define PLAIN_H
+#include <stddef.h>
+#include <stdint.h>
+
+enum kind { ABSENT, FAULT, WHOLE, REAL };
+
+struct signal {
+    int32_t kind;
+    union {
+        int32_t whole;
+        float real;
+    };
+};
+
+struct table {
+    int32_t source, number, x_digits, y_digits;
+    int32_t response[11], x[11], y[11]; /* response[0] is the axis type */
+    int32_t value;
+};
+
+struct condition {
+    int32_t source1, number1, source2, number2, comparison;
+};
+
+struct logic {
+    int32_t table[3], operator[3];
+    struct condition condition[9]; /* three for each of A, B, C */
+};
+
+struct math {
+    int32_t source[4], number[4], digits[4], from[4], to[4], gain[4], operator[3];
+};
+
+/* Every name of the dictionary is a word of its own, a whole number or a REAL32; the rows in plain.c say which. */
+struct plain {
+    int32_t error_register;
+    int32_t ec[12], ec_digits[12], ec_from[12], ec_to[12];
+    int32_t detect[4], hysteresis[4], delay[4], input_digits[4];
+    int32_t sample[4], pv[4], fv1[4], pv1[4], fv2[4], pv2[4], span_start[4], span_end[4];
+    struct table table[6];
+    int32_t logic_enable[2], selected[2], logic_value[2];
+    struct logic logic[2];
+    int32_t math_enable[4], math_from[4], math_to[4], math_digits[4];
+    float math_value[4];
+    struct math math[4];
+    float constant[15];
+    int32_t override_fv[4], ramp_up[4], ramp_down[4], output_digits[4], fault_mode[4], fault_fv[4];
+    int32_t control_source[4], control_number[4];
+    int32_t enable_source[4], enable_number[4], enable_response[4];
+    int32_t override_source[4], override_number[4], override_response[4];
+    int32_t out_pv1[4], out_fv1[4], out_pv2[4], out_fv2[4], command[4];
+    /* What ticks remember and nobody can read. */
+    struct signal input_signal[4], math_signal[4], table_signal[6], logic_signal[2];
+    int32_t run[4], flagged[4];
+};
+
+void plain_start(struct plain *s);
+int32_t plain_serve(struct plain *s, const uint8_t *frame, size_t frame_length, uint8_t *reply, size_t reply_length);
+void plain_tick(struct plain *s, const int16_t *samples);
+#endif
