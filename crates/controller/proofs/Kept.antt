@@ -21,11 +21,11 @@ use Rattle.unit.specs.Held.{inputs, maths, tables, logics, place, lay, held, at
 use Rattle.unit.proofs.Each.{more, each-keeps}
 use Rattle.unit.proofs.HeldLaws.{laid-length, laid-other}
 use Rattle.unit.proofs.Slots.{has, have, array, var, table-value, fixed-constant}
-use Rattle.turns.specs.Maths.{mathTurn}
-use Rattle.turns.specs.Tables.{of-table, tableTurn}
-use Rattle.turns.specs.Logics.{logicTurn}
-use Rattle.ports.specs.Inputs.{remember, inputTurn}
-use Rattle.ports.specs.Outputs.{outputTurn}
+use Rattle.maths.specs.Maths.{mathTurn}
+use Rattle.tables.specs.Tables.{of-table, tableTurn}
+use Rattle.logics.specs.Logics.{logicTurn}
+use Rattle.inputs.specs.Inputs.{remember, inputTurn}
+use Rattle.outputs.specs.Outputs.{outputTurn}
 use Rattle.controller.specs.Tick.{registered}
 
 -- the word at a slot is as it was, and so is the length

@@ -26,11 +26,11 @@ use Rattle.unit.specs.Held.{maths, tables, logics, place, held, lay}
 use Rattle.unit.proofs.HeldLaws.{laid-down}
 use Rattle.unit.proofs.Slots.{has, have, array, table-var}
 use Rattle.unit.proofs.SourceLaws.{Nothing, names-nothing}
-use Rattle.turns.specs.Maths.{mathSignal, mathTurn}
-use Rattle.turns.specs.Tables.{of-table, tableSignal, tableTurn}
-use Rattle.turns.specs.Logics.{chosen, logicTurn}
-use Rattle.ports.specs.Inputs.{memory, inputTurn}
-use Rattle.ports.specs.Outputs.{outputTurn}
+use Rattle.maths.specs.Maths.{mathSignal, mathTurn}
+use Rattle.tables.specs.Tables.{of-table, tableSignal, tableTurn}
+use Rattle.logics.specs.Logics.{chosen, logicTurn}
+use Rattle.inputs.specs.Inputs.{memory, inputTurn}
+use Rattle.outputs.specs.Outputs.{outputTurn}
 use Rattle.controller.specs.Tick.{anyFlagged, registered, ticked}
 use Rattle.controller.proofs.Kept.{Kept, Unseen, Clear, fixed-last, register-first, same, joined, all-keep, set-keeps, register-keeps, math-keeps, table-keeps, logic-keeps, output-keeps, input-keeps, own-turn, row-unseen, row-clear, held-kept}
 

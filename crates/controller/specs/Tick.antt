@@ -8,11 +8,11 @@ use lib.ListN.{getD}
 use Rattle.numbers.specs.Choice.{first}
 use Rattle.unit.specs.Each.{each}
 use Rattle.unit.specs.Entry.{publish}
-use Rattle.turns.specs.Maths.{mathTurn}
-use Rattle.turns.specs.Tables.{tableTurn}
-use Rattle.turns.specs.Logics.{logicTurn}
-use Rattle.ports.specs.Inputs.{memory, inputTurn}
-use Rattle.ports.specs.Outputs.{outputTurn}
+use Rattle.maths.specs.Maths.{mathTurn}
+use Rattle.tables.specs.Tables.{tableTurn}
+use Rattle.logics.specs.Logics.{logicTurn}
+use Rattle.inputs.specs.Inputs.{memory, inputTurn}
+use Rattle.outputs.specs.Outputs.{outputTurn}
 
 -- "1001h is 21h while any input is flagged, else 0"
 unfoldable pub anyFlagged : List ℕ → Bool

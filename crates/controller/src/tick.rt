@@ -4,11 +4,11 @@ ghost use Rattle.controller.specs.Tick.{anyFlagged, registered, ticked};
 use dictionary::slots::ERROR_REGISTER;
 use dictionary::slots::FLAGS;
 use dictionary::slots::Unit;
-use ports::inputs::inputs;
-use ports::outputs::outputs;
-use turns::logics::logics;
-use turns::maths::maths;
-use turns::tables::tables;
+use inputs::inputs;
+use logics::logics;
+use maths::maths;
+use outputs::outputs;
+use tables::tables;
 
 fn any_flagged(unit: &Unit) -> bool
     ensures { λ r. ⌜ r ≡ anyFlagged (now (unit .entry)) ⌝ }

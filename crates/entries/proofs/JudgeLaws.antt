@@ -13,13 +13,13 @@ use mir.Facts.{toZ-ofZ}
 use Rattle.numbers.specs.Choice.{first}
 use Rattle.numbers.specs.Order.{below}
 use Rattle.numbers.specs.Signed.{signed16}
-use Rattle.entries.specs.Chains.{upper-of, lower-of}
-use Rattle.entries.specs.Roles.{Holding, ranged, said, holding, Told}
+use Rattle.roles.specs.Chains.{upper-of, lower-of}
+use Rattle.roles.specs.Roles.{Holding, ranged, said, holding, Told}
 use Rattle.entries.specs.Judge.{finite, number-of, within, in-range, held, past-upper, past-lower, in-order, before, judged}
 use Rattle.dictionary.specs.declared.types.Kind.{Kind}
 use Rattle.dictionary.specs.declared.types.Range.{Range}
-use Rattle.entries.specs.declared.types.Link.{Link}
-use Rattle.entries.specs.declared.types.Link.the-variants.{Loose, Strict}
+use Rattle.roles.specs.declared.types.Link.{Link}
+use Rattle.roles.specs.declared.types.Link.the-variants.{Loose, Strict}
 use Rattle.entries.specs.declared.types.Verdict.{Verdict}
 use Rattle.entries.specs.declared.types.Verdict.the-variants.{Good, NotFinite, Above, Below, ChainUp, ChainDown}
 

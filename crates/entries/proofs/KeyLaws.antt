@@ -19,12 +19,12 @@ use Rattle.dictionary.specs.declared.types.Kind.the-variants.{Integer16, Unsign
 use Rattle.dictionary.specs.declared.types.Range.{Range}
 use Rattle.dictionary.proofs.Families.{apart-from, Apart, apart-first}
 use Rattle.dictionary.proofs.Tabulate.{tabulate}
-use Rattle.entries.specs.Chains.{upper-of, lower-of}
-use Rattle.entries.specs.Values.{range-of}
+use Rattle.roles.specs.Chains.{upper-of, lower-of}
+use Rattle.roles.specs.Values.{range-of}
 use Rattle.entries.specs.Judge.{finite, number-of, within, in-range}
-use Rattle.entries.specs.Roles.{Holding, ranges, ranged, uppers, lowers, chosen, said, holding, Told}
-use Rattle.entries.specs.declared.types.Link.{Link}
-use Rattle.entries.specs.declared.types.Link.the-variants.{Free}
+use Rattle.roles.specs.Roles.{Holding, ranges, ranged, uppers, lowers, chosen, said, holding, Told}
+use Rattle.roles.specs.declared.types.Link.{Link}
+use Rattle.roles.specs.declared.types.Link.the-variants.{Free}
 use Rattle.entries.specs.declared.types.Verdict.the-variants.{Good}
 use Rattle.dictionary.proofs.Sieve.{agree-on}
 

@@ -9,13 +9,13 @@ use lib.ListN.{getD}
 use Rattle.numbers.specs.Choice.{first}
 use Rattle.numbers.specs.Order.{below}
 use Rattle.numbers.specs.Signed.{signed16}
-use Rattle.entries.specs.Chains.{upper-of, lower-of}
-use Rattle.entries.specs.Values.{range-of}
+use Rattle.roles.specs.Chains.{upper-of, lower-of}
+use Rattle.roles.specs.Values.{range-of}
 use Rattle.dictionary.specs.declared.types.Kind.{Kind}
 use Rattle.dictionary.specs.declared.types.Kind.the-variants.{Unsigned8, Integer16, Unsigned16, Real32}
 use Rattle.dictionary.specs.declared.types.Range.{Range}
-use Rattle.entries.specs.declared.types.Link.{Link}
-use Rattle.entries.specs.declared.types.Link.the-variants.{Free, Loose, Strict}
+use Rattle.roles.specs.declared.types.Link.{Link}
+use Rattle.roles.specs.declared.types.Link.the-variants.{Free, Loose, Strict}
 use Rattle.entries.specs.declared.types.Verdict.{Verdict}
 use Rattle.entries.specs.declared.types.Verdict.the-variants.{Good, NotFinite, Above, Below, ChainUp, ChainDown}
 

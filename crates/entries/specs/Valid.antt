@@ -7,9 +7,9 @@ use mathlib.Core.List.{List}
 use lib.ListN.{getD}
 use Rattle.dictionary.specs.Names.{configured}
 use Rattle.dictionary.specs.Rows.{width}
-use Rattle.entries.specs.Chains.{upper-of}
+use Rattle.roles.specs.Chains.{upper-of}
 use Rattle.entries.specs.Judge.{in-range, held, past-upper}
-use Rattle.entries.specs.Values.{range-of}
+use Rattle.roles.specs.Values.{range-of}
 use Rattle.entries.specs.declared.types.Verdict.the-variants.{Good}
 
 pub record Valid (words : List ℕ) : Type 0 where

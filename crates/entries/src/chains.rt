@@ -1,9 +1,9 @@
 // The neighbours of a slot in its chain, by the slot's role.
 ghost use mathlib.Core.Path.{_≡_};
-ghost use Rattle.entries.specs.Chains.{upper-of, lower-of};
-ghost use Rattle.entries.specs.Roles.{Told};
-use super::roles::*;
-use super::types::Link;
+ghost use Rattle.roles.specs.Chains.{upper-of, lower-of};
+ghost use Rattle.roles.specs.Roles.{Told};
+use roles::telling::*;
+use roles::types::Link;
 
 pub fn upper(role: u8, slot: usize) -> Link
     requires { ⌜ Told role slot ⌝ }

@@ -2,18 +2,18 @@
 ghost use mathlib.Core.Path.{_≡_};
 ghost use lib.ListN.{getD};
 ghost use Rattle.entries.specs.Judge.{number-of, finite, within, in-range, past-upper, past-lower, in-order, judged};
-ghost use Rattle.entries.specs.Roles.{ranged, Told};
+ghost use Rattle.roles.specs.Roles.{ranged, Told};
 use super::chains::lower;
 use super::chains::upper;
 use super::limits::high_of;
 use super::limits::kind_of;
 use super::limits::low_of;
-use super::roles::WHOLE;
-use super::roles::role_of;
-use super::types::Link;
 use super::types::Verdict;
 use dictionary::types::Kind;
 use numbers::signed::signed;
+use roles::telling::WHOLE;
+use roles::telling::role_of;
+use roles::types::Link;
 
 fn number(kind: Kind, word: u32) -> i32
     ensures { λ r. ⌜ r ≡ number-of kind word ⌝ }

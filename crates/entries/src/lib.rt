@@ -1,7 +1,6 @@
-// What the dictionary's entries hold: type and range, chain; and judging a value that is offered.
+// What the dictionary's entries hold: the range and the chain of a role; and judging a value that is offered.
 mod chains;
 pub mod judging;
 mod limits;
 pub mod ranges;
-mod roles;
 pub mod types;

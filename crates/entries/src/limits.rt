@@ -1,9 +1,9 @@
 // The type and range of a role.
 ghost use mathlib.Core.Path.{_≡_};
 ghost use Prim.Native.Nat.{_<_};
-ghost use Rattle.entries.specs.Roles.{ranged};
-use super::roles::*;
+ghost use Rattle.roles.specs.Roles.{ranged};
 use dictionary::types::Kind;
+use roles::telling::*;
 
 pub fn kind_of(role: u8) -> Kind
     ensures { λ r. ⌜ r ≡ ranged role .kind ⌝ }

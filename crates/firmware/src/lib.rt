@@ -1,7 +1,7 @@
 // The unit for a firmware written in C: start, serve a frame, tick. Each is the crate's below; valve.h tells a C programmer all of it.
 ghost use mathlib.Core.Path.{_≡_};
 ghost use Rattle.controller.specs.Tick.{ticked};
-ghost use Rattle.entries.specs.Values.{at-start};
+ghost use Rattle.roles.specs.Values.{at-start};
 ghost use Rattle.firmware.specs.Replied.{Replied};
 use controller::tick::tick;
 use dictionary::slots::Unit;

@@ -15,7 +15,7 @@ use borrow.Author.Tests.{lt-ltb, le-leb}
 use Rattle.dictionary.specs.Names.{words}
 use Rattle.dictionary.specs.Unit.{unit-size}
 use Rattle.numbers.specs.Choice.{first}
-use Rattle.entries.specs.Values.{starts, at-start}
+use Rattle.roles.specs.Values.{starts, at-start}
 use Rattle.dictionary.proofs.Sieve.{sieve, sift, sifted}
 
 pub starts-length : length starts ≡ words

@@ -3,7 +3,7 @@ ghost use mathlib.Core.Path.{_≡_};
 ghost use Prim.Native.Nat.{_<_, _≤_};
 ghost use lib.ListN.{getD};
 ghost use Rattle.dictionary.specs.Names.{slot-of, words};
-ghost use Rattle.entries.specs.Values.{starts, at-start};
+ghost use Rattle.roles.specs.Values.{starts, at-start};
 use dictionary::slots::*;
 
 // 21xxh, 23xxh, 25xxh.

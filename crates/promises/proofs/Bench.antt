@@ -10,9 +10,9 @@ use Rattle.numbers.specs.Order.{below}
 use Rattle.numbers.specs.Signed.{twos, signed16}
 use Rattle.dictionary.specs.Names.{find, slot-of, writable}
 use Rattle.dictionary.specs.Rows.{width}
-use Rattle.entries.specs.Chains.{chains, upper-in, lower-in, upper-of, lower-of}
+use Rattle.roles.specs.Chains.{chains, upper-in, lower-in, upper-of, lower-of}
 use Rattle.entries.specs.Judge.{number-of, finite, within, in-range, held, past-upper, past-lower, in-order, before, judged}
-use Rattle.entries.specs.Values.{range-of, starts, at-start}
+use Rattle.roles.specs.Values.{range-of, starts, at-start}
 use Rattle.sdo.specs.Answers.{size-of, reading, stored, offered, refused, writing, obeyed, silent, answer}
 use Rattle.sdo.specs.Frames.{little, bytes, index-in, sub-in, name-in, data-in, command-of, code, reply, reply-to}
 use Rattle.terminals.specs.Input.{process}

@@ -8,9 +8,9 @@ use lib.ListN.{getD}
 use Rattle.numbers.specs.Choice.{first}
 use Rattle.numbers.specs.Signed.{signed16}
 use Rattle.dictionary.specs.Names.{configured}
-use Rattle.entries.specs.Chains.{upper-of, lower-of}
+use Rattle.roles.specs.Chains.{upper-of, lower-of}
 use Rattle.entries.specs.Judge.{in-range, past-upper, past-lower, in-order, before, judged}
-use Rattle.entries.specs.Values.{range-of}
+use Rattle.roles.specs.Values.{range-of}
 use Rattle.entries.specs.declared.types.Verdict.{Verdict}
 use Rattle.entries.specs.declared.types.Verdict.the-variants.{Good, NotFinite, Above, Below, ChainUp, ChainDown}
 use Rattle.promises.proofs.Neighbours.{another, is-another, upper-another, lower-another, upper-same, lower-same}

@@ -13,10 +13,10 @@ use Rattle.numbers.specs.Order.{below}
 use Rattle.numbers.specs.Signed.{signed16}
 use Rattle.dictionary.specs.Names.{configured}
 use Rattle.dictionary.proofs.Tabulate.{tabulate}
-use Rattle.entries.specs.Chains.{chains, upper-in, lower-in, upper-of, lower-of}
+use Rattle.roles.specs.Chains.{chains, upper-in, lower-in, upper-of, lower-of}
 use Rattle.entries.specs.Judge.{held, past-upper, past-lower}
-use Rattle.entries.specs.declared.types.Link.{Link}
-use Rattle.entries.specs.declared.types.Link.the-variants.{Free, Loose, Strict}
+use Rattle.roles.specs.declared.types.Link.{Link}
+use Rattle.roles.specs.declared.types.Link.the-variants.{Free, Loose, Strict}
 use Rattle.promises.proofs.Configuration.{at-each}
 
 -- a test that the neighbour passes, if there is one

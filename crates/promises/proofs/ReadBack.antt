@@ -10,7 +10,7 @@ use Rattle.numbers.specs.Choice.{first}
 use Rattle.dictionary.specs.Names.{find}
 use Rattle.dictionary.specs.declared.types.Found.the-variants.{At}
 use Rattle.dictionary.specs.Unit.{unit-size}
-use Rattle.entries.specs.Values.{range-of}
+use Rattle.roles.specs.Values.{range-of}
 use Rattle.sdo.specs.Answers.{size-of, reading, obeyed, answer}
 use Rattle.sdo.specs.Frames.{bytes, index-in, sub-in, name-in, data-in, command-of, read-command, cut, reply, reply-to}
 use Rattle.sdo.specs.declared.types.Answer.the-variants.{Value}

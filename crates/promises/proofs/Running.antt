@@ -11,16 +11,16 @@ use Rattle.numbers.specs.Signed.{signed16}
 use Rattle.dictionary.specs.Names.{configured, words, slot-of}
 use Rattle.dictionary.specs.Rows.{width}
 use Rattle.dictionary.specs.Unit.{signals-at, runs-at, flags-at, unit-size}
-use Rattle.entries.specs.Chains.{upper-of}
+use Rattle.roles.specs.Chains.{upper-of}
 use Rattle.entries.specs.Judge.{held, past-upper, in-range}
 use Rattle.entries.specs.Valid.{Valid}
-use Rattle.entries.specs.Values.{range-of, starts, at-start}
+use Rattle.roles.specs.Values.{range-of, starts, at-start}
 use Rattle.sdo.specs.Answers.{answer}
 use Rattle.sdo.specs.Served.{Served, after}
 use Rattle.sdo.specs.declared.types.Answer.{Answer}
 use Rattle.sdo.specs.declared.types.Answer.the-variants.{Silent, Aborted, Value, Written}
 use Rattle.unit.specs.Entry.{entry}
-use Rattle.ports.specs.Inputs.{memory}
+use Rattle.inputs.specs.Inputs.{memory}
 use Rattle.controller.specs.Tick.{anyFlagged, ticked}
 use Rattle.controller.proofs.TickLaws as Tick
 use Rattle.promises.specs.Running.{Event, frame, tick, happens, run, Did, Ran, Only-the-fold, Made-of-bytes, Sound, Always-sound}

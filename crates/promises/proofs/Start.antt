@@ -12,10 +12,10 @@ use Rattle.numbers.specs.Signed.{twos, signed16}
 use Rattle.dictionary.specs.Names.{configured}
 use Rattle.dictionary.specs.Rows.{width}
 use Rattle.dictionary.proofs.Tabulate.{tabulate}
-use Rattle.entries.specs.Chains.{chains, upper-in, upper-of}
+use Rattle.roles.specs.Chains.{chains, upper-in, upper-of}
 use Rattle.entries.specs.Judge.{number-of, finite, within, in-range, held, past-upper}
 use Rattle.entries.specs.Valid.{Valid}
-use Rattle.entries.specs.Values.{range-of, starts, at-start}
+use Rattle.roles.specs.Values.{range-of, starts, at-start}
 use Rattle.entries.specs.declared.types.Verdict.the-variants.{Good}
 use Rattle.promises.proofs.Configuration.{at-each}
 

@@ -15,12 +15,12 @@ use Rattle.numbers.specs.Signed.{signed16}
 use Rattle.dictionary.specs.Names.{configured}
 use Rattle.dictionary.specs.Rows.{width}
 use Rattle.dictionary.specs.Unit.{unit-size}
-use Rattle.entries.specs.Chains.{upper-of, lower-of}
+use Rattle.roles.specs.Chains.{upper-of, lower-of}
 use Rattle.entries.specs.Judge.{in-range, held, past-upper, past-lower}
 use Rattle.entries.specs.Valid.{Valid}
-use Rattle.entries.specs.Values.{range-of}
-use Rattle.entries.specs.declared.types.Link.{Link}
-use Rattle.entries.specs.declared.types.Link.the-variants.{Free, Loose, Strict}
+use Rattle.roles.specs.Values.{range-of}
+use Rattle.roles.specs.declared.types.Link.{Link}
+use Rattle.roles.specs.declared.types.Link.the-variants.{Free, Loose, Strict}
 use Rattle.entries.specs.declared.types.Verdict.the-variants.{Good}
 use Rattle.sdo.specs.Answers.{size-of}
 use Rattle.sdo.specs.Frames.{data-in}

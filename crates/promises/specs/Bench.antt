@@ -10,7 +10,7 @@ use Rattle.numbers.specs.Line.{lineAt}
 use Rattle.numbers.specs.Nearest.{nearest16}
 use Rattle.dictionary.specs.Names.{slot-of}
 use Rattle.entries.specs.Judge.{held}
-use Rattle.entries.specs.Values.{at-start}
+use Rattle.roles.specs.Values.{at-start}
 use Rattle.sdo.specs.Answers.{answer}
 use Rattle.sdo.specs.Frames.{reply-to}
 use Rattle.terminals.specs.Input.{process}

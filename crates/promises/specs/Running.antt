@@ -8,7 +8,7 @@ use lib.ListN.{length}
 use Rattle.numbers.specs.Choice.{first}
 use Rattle.dictionary.specs.Unit.{unit-size}
 use Rattle.entries.specs.Valid.{Valid}
-use Rattle.entries.specs.Values.{at-start}
+use Rattle.roles.specs.Values.{at-start}
 use Rattle.sdo.specs.Answers.{answer}
 use Rattle.sdo.specs.Served.{Served, after}
 use Rattle.sdo.specs.declared.types.Answer.{Answer}

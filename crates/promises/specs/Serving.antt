@@ -8,7 +8,7 @@ use Rattle.dictionary.specs.Names.{configured, find}
 use Rattle.dictionary.specs.Unit.{unit-size}
 use Rattle.dictionary.specs.declared.types.Found.the-variants.{At}
 use Rattle.entries.specs.Valid.{Valid}
-use Rattle.entries.specs.Values.{at-start}
+use Rattle.roles.specs.Values.{at-start}
 use Rattle.sdo.specs.Answers.{answer}
 use Rattle.sdo.specs.Frames.{index-in, sub-in, name-in, command-of, read-command, reply-to}
 use Rattle.sdo.specs.Served.{Served, after}

@@ -11,7 +11,7 @@ use Rattle.dictionary.specs.Rows.{width}
 use Rattle.dictionary.specs.declared.types.Found.{Found}
 use Rattle.dictionary.specs.declared.types.Found.the-variants as found
 use Rattle.entries.specs.Judge.{judged}
-use Rattle.entries.specs.Values.{range-of}
+use Rattle.roles.specs.Values.{range-of}
 use Rattle.entries.specs.declared.types.Verdict.{Verdict}
 use Rattle.entries.specs.declared.types.Verdict.the-variants as verdict
 use Rattle.sdo.specs.Frames.{command-of, index-in, sub-in, data-in}

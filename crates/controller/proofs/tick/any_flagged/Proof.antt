@@ -2,7 +2,7 @@
 -- Assumes nothing.
 use mathlib.Core.Path.{refl}
 use Rattle.dictionary.specs.Unit.{flags-at}
-use Rattle.ports.specs.Inputs.{memory}
+use Rattle.inputs.specs.Inputs.{memory}
 use Rattle.controller.specs.Tick.{anyFlagged}
 use borrow.Author.Needs.{needs}
 use Rattle.controller.proofs.tick.any_flagged.Statement.{statement}

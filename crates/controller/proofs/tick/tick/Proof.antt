@@ -2,10 +2,10 @@
 -- Assumes nothing.
 use mathlib.Core.Path.{ap, _∙_}
 use Rattle.unit.specs.Each.{each}
-use Rattle.turns.specs.Maths.{mathTurn}
-use Rattle.turns.specs.Tables.{tableTurn}
-use Rattle.turns.specs.Logics.{logicTurn}
-use Rattle.ports.specs.Outputs.{outputTurn}
+use Rattle.maths.specs.Maths.{mathTurn}
+use Rattle.tables.specs.Tables.{tableTurn}
+use Rattle.logics.specs.Logics.{logicTurn}
+use Rattle.outputs.specs.Outputs.{outputTurn}
 use Rattle.controller.specs.Tick.{registered, ticked}
 use borrow.Author.Needs.{needs}
 use Rattle.controller.proofs.tick.tick.Statement.{statement}

@@ -5,7 +5,7 @@ use native.Mathlib.Omega.{arith}
 use borrow.Author.Needs.{needs}
 use Rattle.numbers.specs.Choice.{first}
 use Rattle.entries.specs.Judge.{before}
-use Rattle.entries.specs.Roles.{lowers, chosen}
+use Rattle.roles.specs.Roles.{lowers, chosen}
 use Rattle.entries.proofs.KeyLaws.{keys, beneath, none-beneath}
 use Rattle.entries.proofs.chains.lower.Statement.{statement}
 use Rattle.entries.proofs.chains.lower.Tie as tie

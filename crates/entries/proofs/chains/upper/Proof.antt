@@ -5,7 +5,7 @@ use native.Mathlib.Omega.{arith}
 use borrow.Author.Needs.{needs}
 use Rattle.numbers.specs.Choice.{first}
 use Rattle.entries.specs.Judge.{before}
-use Rattle.entries.specs.Roles.{uppers, chosen}
+use Rattle.roles.specs.Roles.{uppers, chosen}
 use Rattle.entries.proofs.KeyLaws.{keys, above, none-above}
 use Rattle.entries.proofs.chains.upper.Statement.{statement}
 use Rattle.entries.proofs.chains.upper.Tie as tie

@@ -4,7 +4,7 @@ use mathlib.Core.Path.{refl}
 use Rattle.numbers.specs.Choice.{first}
 use Rattle.dictionary.proofs.Tabulate.{tabulate}
 use Rattle.entries.specs.Judge.{before}
-use Rattle.entries.specs.Roles.{ranged, ranges, chosen}
+use Rattle.roles.specs.Roles.{ranged, ranges, chosen}
 use Rattle.entries.proofs.KeyLaws.{not-below, high-on}
 use Rattle.entries.proofs.limits.high_of.Statement.{statement}
 use Rattle.entries.proofs.limits.high_of.Tie as tie

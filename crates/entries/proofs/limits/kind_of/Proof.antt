@@ -6,7 +6,7 @@ use Prim.Native.Nat.{zero-le}
 use Rattle.numbers.specs.Choice.{first}
 use Rattle.dictionary.specs.declared.types.Kind.the-variants.{Unsigned8}
 use Rattle.dictionary.proofs.Tabulate.{tabulate}
-use Rattle.entries.specs.Roles.{ranged, ranges, chosen}
+use Rattle.roles.specs.Roles.{ranged, ranges, chosen}
 use Rattle.entries.proofs.KeyLaws.{kind-on, kind-whole}
 use Rattle.entries.proofs.limits.kind_of.Statement.{statement}
 use Rattle.entries.proofs.limits.kind_of.Tie as tie

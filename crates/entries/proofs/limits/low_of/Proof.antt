@@ -2,7 +2,7 @@
 -- Assumes nothing.
 use Rattle.numbers.specs.Choice.{first}
 use Rattle.entries.specs.Judge.{before}
-use Rattle.entries.specs.Roles.{ranged, ranges, chosen}
+use Rattle.roles.specs.Roles.{ranged, ranges, chosen}
 use Rattle.entries.proofs.KeyLaws.{low-zero}
 use Rattle.entries.proofs.limits.low_of.Statement.{statement}
 use Rattle.entries.proofs.limits.low_of.Tie as tie

@@ -9,7 +9,7 @@ use Rattle.dictionary.specs.Rows.{width}
 use Rattle.dictionary.specs.declared.types.Kind.the-variants.{Unsigned8, Real32}
 use Rattle.dictionary.proofs.Tabulate.{tabulate}
 use Rattle.entries.specs.Judge.{before}
-use Rattle.entries.specs.Roles.{ranged, ranges, chosen}
+use Rattle.roles.specs.Roles.{ranged, ranges, chosen}
 use Rattle.entries.proofs.KeyLaws.{kind-on, wide, two-wide}
 use Rattle.entries.proofs.ranges.width.Statement.{statement}
 use Rattle.entries.proofs.ranges.width.Tie as tie

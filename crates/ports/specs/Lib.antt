@@ -1,3 +1,0 @@
-pub mod Inputs
-pub mod Outputs
-pub mod Rules

@@ -1,3 +1,0 @@
-pub mod Logics
-pub mod Maths
-pub mod Tables
