@@ -58,14 +58,19 @@ unfoldable pub held-when : (ℕ → Bool) → ℕ → ℕ → List Holding
 unfolding held-in runs
 held-when p start stop = held-in runs p start stop
 
--- a role with neighbours is far from both ends
+-- a role is one of the 31, and one with neighbours is far from both ends
 unfoldable pub near : ℕ → ℕ → ℕ → Bool
-near role low high = ltb role 15 || (leb 16 low && leb high 65536)
+near role low high = ltb role 31 && (ltb role 15 || (leb 16 low && leb high 65536))
+
+one-of : (role low high : ℕ) → near role low high ≡ true → role < 31
+unfolding near
+one-of role low high e = ltb-true role 31 (and-eq-true-iff (ltb role 31) (ltb role 15 || (leb 16 low && leb high 65536)) .0 e .0)
 
 nearby : {role low high slot : ℕ} → near role low high ≡ true → low ≤ slot → slot < high → 15 ≤ role → (16 ≤ slot) × (slot < 2 ^ 16)
 unfolding near
 nearby {role} {low} {high} e l h r =
-    let both = and-eq-true-iff (leb 16 low) (leb high 65536) .0 (rw (le-ltb role 15 r) at e) in
+    let far = and-eq-true-iff (ltb role 31) (ltb role 15 || (leb 16 low && leb high 65536)) .0 e .1 in
+    let both = and-eq-true-iff (leb 16 low) (leb high 65536) .0 (rw (le-ltb role 15 r) at far) in
     let a = leb-true 16 low (both .0) in
     let b = leb-true high 65536 (both .1) in
     (omega arith, omega arith)
@@ -73,6 +78,7 @@ nearby {role} {low} {high} e l h r =
 when : {start stop role slot : ℕ} (p : ℕ → Bool) → start ≤ slot → slot < stop → p slot ≡ true → told-when role p start stop ≡ held-when p start stop → near role start stop ≡ true → Told role slot
 unfolding told-when held-when held-in holding range-of table upper-of lower-of
 when {start} {stop} {role} {slot} p l h t e n = record {
+  known = one-of role start stop n;
   holds = sifted p (said role) (joined runs) (u8 0 0 0 .range) start stop slot table e l h t
       ∙ ap (λ (ns : List Neighbours). joined ns slot (getD table slot (u8 0 0 0 .range))) (sym chains-run);
   near = nearby n l h;
@@ -150,6 +156,7 @@ past-all {bound} {slot} h e =
     let two = and-eq-true-iff (eqb words bound) (all-below bound chains) .0 e in
     let w : words ≡ bound = eqb-true words bound (two .0) in
     record {
+      known = omega arith;
       holds = rw (no-range slot (omega arith), no-upper bound slot h chains (two .1), no-lower bound slot h chains (two .1));
       near = λ r. absurd (omega arith);
     }

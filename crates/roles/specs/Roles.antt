@@ -55,7 +55,8 @@ said role slot = record { range = ranged role; upper = chosen (uppers slot) Free
 unfoldable pub holding : ℕ → Holding
 holding slot = record { range = range-of slot; upper = upper-of slot; lower = lower-of slot }
 
--- a role is a slot's, and one that has neighbours is far from both ends of the numbers
+-- a role is a slot's: one of the 31; and one that has neighbours is far from both ends of the numbers
 pub record Told (role slot : ℕ) : Type 0 where
+  pub known : role < 31
   pub holds : said role slot ≡ holding slot
   pub near : 15 ≤ role → (16 ≤ slot) × (slot < 2 ^ 16)
