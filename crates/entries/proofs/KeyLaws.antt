@@ -83,17 +83,19 @@ kind-whole {role} l = go (decLt role 17)
     go (yes h) = kind-on Integer16 l h refl
     go (no n) = sym (ap (λ (r : Range). r .kind) (ranged-whole {role = role} (omega arith)))
 
-pub wide : {role slot : ℕ} {n : ℕ} (kind : Kind) → Told role slot → kind ≡ ranged role .kind → n ≡ width kind → n ≡ width (range-of slot .kind)
-unfolding said holding
-wide kind t e w = w ∙ ap width (e ∙ ap (λ (h : Holding). h .range .kind) (t .holds))
-
-pub two-wide : {role slot : ℕ} → Told role slot → 10 < role → 2 ≡ width (range-of slot .kind)
+-- from the REAL32's role on, two bytes
+pub two-wide : {role : ℕ} → 10 < role → 2 ≡ width (ranged role .kind)
 unfolding width ranged ranges chosen first
-two-wide {role} {slot} t l = go (decLt role 12)
+two-wide {role} l = go (decLt role 12)
   where
-    go : Dec (role < 12) → 2 ≡ width (range-of slot .kind)
-    go (yes h) = let e : role ≡ 11 = omega arith in wide Unsigned16 t (rw e) refl
-    go (no n) = wide Integer16 t (kind-whole {role = role} (omega arith)) refl
+    go : Dec (role < 12) → 2 ≡ width (ranged role .kind)
+    go (yes h) = let e : role ≡ 11 = omega arith in rw e
+    go (no n) = ap width (kind-whole {role = role} (omega arith))
+
+-- a slot's type is its role's
+pub kind-told : {role slot : ℕ} → Told role slot → ranged role .kind ≡ range-of slot .kind
+unfolding said holding
+kind-told t = ap (λ (h : Holding). h .range .kind) (t .holds)
 
 pub high-on : (v : ℤ) {low high role : ℕ} → low ≤ role → role < high → tabulate (high - low) low (λ r. v) ≡ tabulate (high - low) low (λ r. ranged r .high) → v ≡ ranged role .high
 high-on v {low} {high} {role} l h e = agree-on (λ r. v) (λ r. ranged r .high) low high role v e l h

@@ -74,3 +74,12 @@ before ChainDown other = ChainDown
 
 unfoldable pub judged : List ℕ → ℕ → ℕ → Verdict
 judged words slot word = before (in-range (range-of slot) word) (in-order words slot word)
+
+-- whether the judgement lets the value stand
+unfoldable pub is-good : Verdict → Bool
+is-good Good = true
+is-good NotFinite = false
+is-good Above = false
+is-good Below = false
+is-good ChainUp = false
+is-good ChainDown = false

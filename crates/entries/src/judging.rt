@@ -1,7 +1,7 @@
 // Judging one value for one entry: finite, in its own range, in order with its chain.
 ghost use mathlib.Core.Path.{_≡_};
 ghost use lib.ListN.{getD};
-ghost use Rattle.entries.specs.Judge.{number-of, finite, within, in-range, past-upper, past-lower, in-order, judged};
+ghost use Rattle.entries.specs.Judge.{number-of, finite, within, in-range, past-upper, past-lower, in-order, judged, is-good};
 ghost use Rattle.roles.specs.Roles.{ranged, Told};
 use super::chains::lower;
 use super::chains::upper;
@@ -61,6 +61,20 @@ fn judge_range(role: u8, word: u32) -> Verdict
         return judge_number(number(kind, word), low_of(role), high_of(role));
     }
     Verdict::NotFinite
+}
+
+// Whether a word may stand in the range of a role.
+pub fn fits(role: u8, word: u32) -> bool
+    ensures { λ r. ⌜ r ≡ is-good (in-range (ranged role) word) ⌝ }
+{
+    match judge_range(role, word) {
+        Verdict::Good => true,
+        Verdict::NotFinite => false,
+        Verdict::Above => false,
+        Verdict::Below => false,
+        Verdict::ChainUp => false,
+        Verdict::ChainDown => false,
+    }
 }
 
 // A slot past the last reads 0.

@@ -1,15 +1,15 @@
-// How wide a slot's value is.
+// How wide a value is.
 ghost use mathlib.Core.Path.{_≡_};
 ghost use Rattle.dictionary.specs.Rows.{width};
+ghost use Rattle.roles.specs.Roles.{ranged};
 ghost use Rattle.roles.specs.Values.{range-of};
 use roles::telling::REAL;
 use roles::telling::role_of;
 
-// The bytes of a slot's type. A slot past the last has the range 0..0.
-pub fn width(slot: usize) -> u8
-    ensures { λ r. ⌜ r ≡ width (range-of slot .kind) ⌝ }
+// The bytes of a role's type.
+pub fn width_of(role: u8) -> u8
+    ensures { λ r. ⌜ r ≡ width (ranged role .kind) ⌝ }
 {
-    let role = role_of(slot);
     if role == REAL {
         return 4;
     }
@@ -17,4 +17,11 @@ pub fn width(slot: usize) -> u8
         return 1;
     }
     2
+}
+
+// The bytes of a slot's type. A slot past the last has the range 0..0.
+pub fn width(slot: usize) -> u8
+    ensures { λ r. ⌜ r ≡ width (range-of slot .kind) ⌝ }
+{
+    width_of(role_of(slot))
 }

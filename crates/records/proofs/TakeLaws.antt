@@ -1,0 +1,112 @@
+-- One record, part by part and test by test.
+-- Assumes nothing.
+use mathlib.Core.Path.{_≡_, refl, sym, ap, _∙_}
+use mathlib.Core.Bool.{Bool, true, false}
+use mathlib.Core.List.{List, [], _∷_}
+use Prim.Native.Nat.{ℕ, zero, suc, _+_, _<_, _≤_}
+use native.Mathlib.Omega.{arith}
+use lib.Dec.{eqb, ltb}
+use lib.ListN.{length, getD}
+use borrow.Author.Tests.{lt-ltb, le-ltb, eq-eqb, ne-eqb}
+use Rattle.little.specs.Little.{little}
+use Rattle.little.proofs.Parts.{placed, part}
+use Rattle.numbers.specs.Choice.{first}
+use Rattle.dictionary.specs.Rows.{width}
+use Rattle.dictionary.specs.declared.types.Kind.{Kind}
+use Rattle.dictionary.specs.declared.types.Kind.the-variants.{Unsigned8, Integer16, Unsigned16, Real32}
+use Rattle.entries.specs.Judge.{in-range, is-good}
+use Rattle.roles.specs.Roles.{ranged}
+use Rattle.records.specs.Layout.{Listed, size}
+use Rattle.records.specs.Rows.{role-at, entry-at}
+use Rattle.records.specs.Walk.{index-in, sub-in, size-in, data-in, fits, valued, decoded}
+use Rattle.records.specs.declared.types.Refusal.the-variants.{EndedEarly, NotNext, WrongSize, OutOfRange}
+use Rattle.records.specs.declared.types.Walked.{Walked}
+use Rattle.records.specs.declared.types.Walked.the-variants.{Taken, Refused}
+
+-- ---- the parts
+
+module _ (rest : List ℕ) where
+  pub index-read : 7 ≤ length rest → little (getD rest 0 0 ∷ getD rest 1 0 ∷ []) ≡ index-in rest
+  unfolding index-in placed
+  index-read h = sym (ap little (part rest 2 0 (omega arith)))
+
+  pub size-read : 7 ≤ length rest → little (getD rest 3 0 ∷ getD rest 4 0 ∷ getD rest 5 0 ∷ getD rest 6 0 ∷ []) ≡ size-in rest
+  unfolding size-in placed
+  size-read h = sym (ap little (part rest 4 3 (omega arith)))
+
+  pub data-1 : {n : ℕ} → 7 + n ≤ length rest → n ≡ 1 → little (getD rest 7 0 ∷ 0 ∷ 0 ∷ 0 ∷ []) ≡ data-in n rest
+  unfolding data-in little placed
+  data-1 h e = rw (e, part rest 1 7 (omega arith)) (omega arith)
+
+  pub data-2 : {n : ℕ} → 7 + n ≤ length rest → n ≡ 2 → little (getD rest 7 0 ∷ getD rest 8 0 ∷ 0 ∷ 0 ∷ []) ≡ data-in n rest
+  unfolding data-in little placed
+  data-2 h e = rw (e, part rest 2 7 (omega arith)) (omega arith)
+
+  pub data-4 : {n : ℕ} → 7 + n ≤ length rest → n ≡ 4 → little (getD rest 7 0 ∷ getD rest 8 0 ∷ getD rest 9 0 ∷ getD rest 10 0 ∷ []) ≡ data-in n rest
+  unfolding data-in placed
+  data-4 h e = rw (e, part rest 4 7 (omega arith))
+
+-- a type has one, two or four bytes
+pub three-sizes : (kind : Kind) → (width kind ≡ 1 → ⊥) → (width kind ≡ 2 → ⊥) → width kind ≡ 4
+unfolding width
+three-sizes Unsigned8 a b = absurd (a refl)
+three-sizes Integer16 a b = absurd (b refl)
+three-sizes Unsigned16 a b = absurd (b refl)
+three-sizes Real32 a b = refl
+
+pub at-most-four : (kind : Kind) → width kind ≤ 4
+unfolding width
+at-most-four Unsigned8 = omega arith
+at-most-four Integer16 = omega arith
+at-most-four Unsigned16 = omega arith
+at-most-four Real32 = omega arith
+
+-- ---- the entry of a row's sub, by its role
+
+module _ (row sub : ℕ) {role : ℕ} (q : role ≡ role-at row sub) where
+  pub same-size : {n : ℕ} → n ≡ width (ranged role .kind) → n ≡ size (entry-at row sub)
+  unfolding size entry-at
+  same-size w = w ∙ ap (λ (r : ℕ). width (ranged r .kind)) q
+
+  pub same-fits : (word : ℕ) → is-good (in-range (ranged role) word) ≡ fits (entry-at row sub) word
+  unfolding fits entry-at
+  same-fits word = ap (λ (r : ℕ). is-good (in-range (ranged r) word)) q
+
+-- ---- the tests in their order
+
+module _ (e : Listed) (rest : List ℕ) where
+  pub no-head : length rest < 7 → Refused EndedEarly ≡ decoded e rest
+  unfolding decoded first
+  no-head h = rw (lt-ltb (length rest) 7 h)
+
+  pub other-index : 7 ≤ length rest → (index-in rest ≡ e .index → ⊥) → Refused NotNext ≡ decoded e rest
+  unfolding decoded first
+  other-index h n = rw (le-ltb (length rest) 7 h, ne-eqb (index-in rest) (e .index) n)
+
+  module _ (h : 7 ≤ length rest) (i : index-in rest ≡ e .index) where
+    pub other-sub : (sub-in rest ≡ e .sub → ⊥) → Refused NotNext ≡ decoded e rest
+    unfolding decoded first
+    other-sub n = rw (le-ltb (length rest) 7 h, eq-eqb (index-in rest) (e .index) i, ne-eqb (sub-in rest) (e .sub) n)
+
+    pub other-size : sub-in rest ≡ e .sub → (size-in rest ≡ size e → ⊥) → Refused WrongSize ≡ decoded e rest
+    unfolding decoded first
+    other-size s n =
+        rw (le-ltb (length rest) 7 h, eq-eqb (index-in rest) (e .index) i, eq-eqb (sub-in rest) (e .sub) s, ne-eqb (size-in rest) (size e) n)
+
+    pub head-right : sub-in rest ≡ e .sub → size-in rest ≡ size e → valued e rest ≡ decoded e rest
+    unfolding decoded first
+    head-right s n =
+        rw (le-ltb (length rest) 7 h, eq-eqb (index-in rest) (e .index) i, eq-eqb (sub-in rest) (e .sub) s, eq-eqb (size-in rest) (size e) n)
+
+  pub no-data : {n : ℕ} → n ≡ size e → length rest < 7 + n → Refused EndedEarly ≡ valued e rest
+  unfolding valued first
+  no-data q h = rw (lt-ltb (length rest) (7 + size e) (omega arith))
+
+  module _ {n word : ℕ} (q : n ≡ size e) (h : 7 + n ≤ length rest) (d : word ≡ data-in n rest) where
+    pub unfit : {b : Bool} → b ≡ fits e word → b ≡ false → Refused OutOfRange ≡ valued e rest
+    unfolding valued first
+    unfit f t = rw (le-ltb (length rest) (7 + size e) (omega arith), ← q, ← d, ← f, t)
+
+    pub fit : {b : Bool} → b ≡ fits e word → b ≡ true → Taken (7 + n) ≡ valued e rest
+    unfolding valued first
+    fit f t = rw (le-ltb (length rest) (7 + size e) (omega arith), ← q, ← d, ← f, t)

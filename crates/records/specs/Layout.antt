@@ -1,0 +1,38 @@
+-- The configuration image: "count u32, then per record index u16, sub u8, size u32, data; low byte first".
+-- Assumes nothing.
+use Prim.Native.Nat.{ℕ}
+use mathlib.Core.List.{List, [], _∷_, _++_, map}
+use lib.ListN.{take}
+use Rattle.little.specs.Little.{bytes}
+use Rattle.dictionary.specs.Names.{Entry, entries, configured}
+use Rattle.dictionary.specs.Rows.{width}
+use Rattle.dictionary.specs.declared.types.Range.{Range}
+
+-- an entry as an image lists it
+pub record Listed : Type 0 where
+  pub index : ℕ
+  pub sub : ℕ
+  pub range : Range
+
+-- "the 611 entries ascending by index, then sub": the configuration's slots in their order
+unfoldable pub listed : List Listed
+unfolding entries configured
+listed = map (λ (e : Entry). record { index = e .index; sub = e .sub; range = e .value .range }) (take configured entries)
+
+-- the bytes of an entry's data
+unfoldable pub size : Listed → ℕ
+size e = width (e .range .kind)
+
+-- the record of an entry that holds a word
+unfoldable pub record-of : Listed → ℕ → List ℕ
+record-of e word = bytes 2 (e .index) ++ bytes 1 (e .sub) ++ bytes 4 (size e) ++ bytes (size e) word
+
+-- the records of some entries, each with its word; a word that is not there is 0
+unfoldable pub records : List Listed → List ℕ → List ℕ
+records [] words = []
+records (e ∷ es) [] = record-of e 0 ++ records es []
+records (e ∷ es) (w ∷ ws) = record-of e w ++ records es ws
+
+-- the image of a unit's configuration
+unfoldable pub image-of : List ℕ → List ℕ
+image-of words = bytes 4 configured ++ records listed words
