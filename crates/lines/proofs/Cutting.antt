@@ -10,8 +10,8 @@ use borrow.Author.Tests.{eq-eqb, ne-eqb}
 use lib.Dec.{eqb}
 use lib.ListN.{length, take, drop, getD, drop-of-length-le, length-drop}
 use lib.Seq.{take-all, drop-cons}
-use Rattle.numbers.specs.Choice.{first}
-use Rattle.lines.specs.Reading.{every, fields, ahead}
+use Rattle.numbers.specs.Choice.{first, every}
+use Rattle.lines.specs.Reading.{fields, ahead}
 use Rattle.lines.specs.Steps.{span, following}
 use Rattle.lines.proofs.Every.{both}
 

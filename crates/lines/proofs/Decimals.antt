@@ -12,10 +12,10 @@ use lib.Dec.{leb, ltb, lit<, leb·suc-suc}
 use lib.IntN.{ℤ, pos, negℤ}
 use lib.ListN.{length, drop, getD, drop-of-length-le}
 use lib.Seq.{drop-cons}
-use Rattle.numbers.specs.Choice.{first}
+use Rattle.numbers.specs.Choice.{first, every}
 use Rattle.numbers.specs.Order.{below}
 use Rattle.numbers.specs.Signed.{twos, signed16}
-use Rattle.lines.specs.Reading.{every, isDigit, tens, sizeOf, isDigits, isInteger16, isDecimal, minus, unsigned, valueOf}
+use Rattle.lines.specs.Reading.{isDigit, tens, sizeOf, isDigits, isInteger16, isDecimal, minus, unsigned, valueOf}
 use Rattle.lines.specs.Steps.{sizeRead, numberRead}
 use Rattle.lines.specs.declared.reading.decimal.Size.{Size}
 use Rattle.lines.specs.declared.reading.decimal.Size.the-variants as size

@@ -12,8 +12,8 @@ use lib.Dec.{eqb}
 use lib.IntN.{ℤ}
 use lib.ListN.{length, take, drop, drop-of-length-le, length-append}
 use lib.Seq.{drop-cons, drop-drop, length-take-le}
-use Rattle.numbers.specs.Choice.{first}
-use Rattle.lines.specs.Reading.{every, fields, valueOf, isDecimal, unknown, tickOf, askedTick}
+use Rattle.numbers.specs.Choice.{first, every}
+use Rattle.lines.specs.Reading.{fields, valueOf, isDecimal, unknown, tickOf, askedTick}
 use Rattle.lines.specs.Steps.{numberRead, span, following, nextOf}
 use Rattle.lines.specs.declared.reading.Request.{Request}
 use Rattle.lines.specs.declared.reading.decimal.Number.the-variants as number

@@ -10,8 +10,8 @@ use borrow.Author.Tests.{eq-eqb, ne-eqb, leb-true}
 use lib.Dec.{eqb, leb}
 use lib.ListN.{length, take, drop, getD, set, take-append-drop, drop-of-length-le}
 use lib.Seq.{drop-cons, take-suc-set, take-all}
-use Rattle.numbers.specs.Choice.{first}
-use Rattle.lines.specs.Reading.{every, fields, isHex, hexValue, isFrame, bytesOf, unknown, frameOf, askedFrame}
+use Rattle.numbers.specs.Choice.{first, every}
+use Rattle.lines.specs.Reading.{fields, isHex, hexValue, isFrame, bytesOf, unknown, frameOf, askedFrame}
 use Rattle.lines.specs.Steps.{nibbleOf, span, following}
 use Rattle.lines.specs.declared.reading.Request.{Request}
 use Rattle.lines.proofs.Cutting.{cut, whole}

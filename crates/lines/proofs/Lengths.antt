@@ -8,8 +8,8 @@ use native.Mathlib.Omega.{arith}
 use borrow.Author.Tests.{leb-true, eqb-true}
 use lib.Dec.{leb, eqb}
 use lib.ListN.{length, take, drop, length-drop}
-use Rattle.numbers.specs.Choice.{first}
-use Rattle.lines.specs.Reading.{every, ahead, fields, letter, isHex, isFrame, isDigit, minus, unsigned, isDigits, isInteger16, valueOf, isDecimal, unknown, askedFrame, askedTick, askedBy, asked}
+use Rattle.numbers.specs.Choice.{first, every}
+use Rattle.lines.specs.Reading.{ahead, fields, letter, isHex, isFrame, isDigit, minus, unsigned, isDigits, isInteger16, valueOf, isDecimal, unknown, askedFrame, askedTick, askedBy, asked}
 use Rattle.lines.specs.Steps.{span, following}
 use Rattle.lines.proofs.Cutting.{cut}
 use Rattle.lines.proofs.Every.{both}

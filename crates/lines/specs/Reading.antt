@@ -8,15 +8,10 @@ use mathlib.Core.List.{List, [], _∷_, map, foldl}
 use lib.Dec.{leb, eqb}
 use lib.IntN.{ℤ, pos, negℤ}
 use lib.ListN.{length, getD, drop, replicate}
-use Rattle.numbers.specs.Choice.{first}
+use Rattle.numbers.specs.Choice.{first, every}
 use Rattle.numbers.specs.Order.{below}
 use Rattle.lines.specs.declared.reading.Verb.the-variants.{Frame, Tick, Unknown}
 use Rattle.lines.specs.declared.reading.Request.{Request}
-
--- every element passes a test
-unfoldable pub every : {A : Type 0} → (A → Bool) → List A → Bool
-every test [] = true
-every test (x ∷ rest) = test x && every test rest
 
 -- ---- "One space between fields"
 

@@ -6,10 +6,10 @@ use Prim.Native.String.{String, [] as end, _∷_ as _then_}
 use mathlib.Core.List.{List, [], _∷_}
 use mathlib.Core.Path.{_≡_, refl}
 use lib.IntN.{pos, negsuc}
-use Rattle.numbers.specs.Choice.{first}
+use Rattle.numbers.specs.Choice.{first, every}
 use Rattle.numbers.specs.Order.{below}
 use Rattle.answers.specs.Printing.{hexDigit, hex2, each, width, lastDigits, digits, decimal, spaced, ended, replyLine, tickLine, silentLine, unknownLine}
-use Rattle.lines.specs.Reading.{every, ahead, fields, letter, isHex, hexValue, isFrame, bytesOf, isDigit, minus, unsigned, tens, sizeOf, valueOf, isDigits, isInteger16, isDecimal, unknown, frameOf, tickOf, askedFrame, askedTick, askedBy, asked}
+use Rattle.lines.specs.Reading.{ahead, fields, letter, isHex, hexValue, isFrame, bytesOf, isDigit, minus, unsigned, tens, sizeOf, valueOf, isDigits, isInteger16, isDecimal, unknown, frameOf, tickOf, askedFrame, askedTick, askedBy, asked}
 use Rattle.lines.specs.declared.reading.Request.{Request}
 
 -- the bytes of a text of ASCII characters

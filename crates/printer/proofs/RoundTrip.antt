@@ -12,9 +12,9 @@ use lib.IntN.{ℤ, pos, negsuc}
 use lib.ListN.{length}
 use mir.Syntax.{w16}
 use mir.Val.{SFits}
-use Rattle.numbers.specs.Choice.{first}
+use Rattle.numbers.specs.Choice.{first, every}
 use Rattle.answers.specs.Printing.{width, lastDigits, digits, decimal, spaced}
-use Rattle.lines.specs.Reading.{every, fields, letter, isDigit, minus, unsigned, tens, sizeOf, valueOf, isDigits, isDecimal, tickOf, askedTick, askedBy, asked}
+use Rattle.lines.specs.Reading.{fields, letter, isDigit, minus, unsigned, tens, sizeOf, valueOf, isDigits, isDecimal, tickOf, askedTick, askedBy, asked}
 use Rattle.lines.proofs.Cutting.{whole, apart}
 use Rattle.lines.proofs.Decimals.{digit-yes, minus-in, plain-in}
 use Rattle.lines.proofs.Every.{both, every-append, every-weaker}

@@ -93,6 +93,28 @@ then-refused (e ∷ xs) ys rest {why} t = go (decoded e rest) (walked xs (drop (
     go (Taken m) (Taken k) q t = absurd (not-both (sym t))
     go (Taken m) (Refused other) q t = rw (q other refl) t
 
+-- ---- all records are taken whole
+
+unfoldable pub total : List Listed → ℕ
+total [] = 0
+total (e ∷ es) = 7 + size e + total es
+
+pub takes-all : (es : List Listed) (rest : List ℕ) {n : ℕ} → walked es rest ≡ Taken n → (n ≡ total es) × (n ≤ length rest)
+unfolding walked and-then behind total
+takes-all [] rest {n} t = let z : n ≡ 0 = cc in (z, omega arith)
+takes-all (e ∷ es) rest {n} t = go (decoded e rest) refl (walked es (drop (7 + size e) rest)) (λ k q. takes-all es (drop (7 + size e) rest) q) t
+  where
+    go : (d : Walked) → decoded e rest ≡ d → (w : Walked) → ((k : ℕ) → w ≡ Taken k → (k ≡ total es) × (k ≤ length (drop (7 + size e) rest)))
+        → and-then d w ≡ Taken n → (n ≡ 7 + size e + total es) × (n ≤ length rest)
+    go (Refused why) p w q t = absurd (not-both t)
+    go (Taken m) p (Refused why) q t = absurd (not-both t)
+    go (Taken m) p (Taken k) q t =
+        let whole = whole-taken e rest p in
+        let sum : n ≡ m + k = cc in
+        let more = q k refl in
+        let room = length-drop (7 + size e) rest in
+        (omega arith, omega arith)
+
 -- ---- a row, sub by sub
 
 module _ (row sub k : ℕ) (rest : List ℕ) where

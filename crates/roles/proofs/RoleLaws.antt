@@ -33,7 +33,7 @@ runs =
     ++ flatMap (λ y. run (slot-of (0x4020 + 0x100 * y) 1) (slot-of (0x4022 + 0x100 * y) 1) true 4) (6 ∷ 7 ∷ 8 ∷ 9 ∷ [])
     ++ run (slot-of 0x4521 1) (slot-of 0x4523 1) true 4 ++ run (slot-of 0x7320 1) (slot-of 0x7322 1) true 4 ++ run (slot-of 0x7321 1) (slot-of 0x7323 1) true 4
 
-chains-run : chains ≡ runs
+pub chains-run : chains ≡ runs
 unfolding chains runs
 chains-run = refl
 

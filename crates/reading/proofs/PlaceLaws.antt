@@ -1,0 +1,168 @@
+-- The chains of a configuration, by the places of its entries in an image.
+-- Assumes nothing.
+use mathlib.Core.Path.{_≡_, refl, sym, ap, _∙_}
+use mathlib.Core.Bool.{Bool, true, false, not, _&&_, and-eq-true-iff}
+use mathlib.Core.List.{List, [], _∷_, _++_, map, flatMap}
+use Prim.Native.Nat.{ℕ, zero, suc, _+_, _-_, _<_, _≤_}
+use native.Mathlib.Nat.{le-of-suc-le-suc, not-suc-le-zero}
+use native.Mathlib.Omega.{arith}
+use lib.Dec.{ltb, eqb}
+use lib.ListN.{length, getD, take, drop, length-drop}
+use lib.Seq.{drop-drop, take-all}
+use borrow.Author.Tests.{lt-ltb, le-ltb, ltb-true, eqb-true, eq-eqb, ne-eqb}
+use Rattle.little.specs.Little.{little}
+use Rattle.little.proofs.Parts.{placed, part}
+use Rattle.numbers.specs.Choice.{first, every}
+use Rattle.numbers.specs.Signed.{signed16}
+use Rattle.dictionary.specs.Rows.{width, u8}
+use Rattle.roles.specs.Chains.{Neighbours, chains}
+use Rattle.roles.proofs.RoleLaws.{run, runs, chains-run}
+use Rattle.entries.specs.Judge.{held}
+use Rattle.records.specs.Layout.{Listed, listed, size}
+use Rattle.records.specs.Walk.{data-in, values, walked}
+use Rattle.records.proofs.WalkLaws.{total, takes-all}
+use Rattle.records.specs.declared.types.Refusal.the-variants.{EndedEarly, WrongCount, OutOfOrder, LeftOver}
+use Rattle.records.specs.declared.types.Walked.{Walked}
+use Rattle.records.specs.declared.types.Walked.the-variants as walked
+use Rattle.records.specs.declared.types.Walked.the-variants.{Taken}
+use Rattle.records.specs.declared.types.Refusal.{Refusal}
+use Rattle.records.specs.declared.types.Outcome.the-variants.{Good, Refused}
+use Rattle.dictionary.specs.Names.{configured}
+use Rattle.reading.specs.Places.{Pair, number-at, rising, rises, run-from, run-of}
+use Rattle.reading.specs.Reading.{in-place, in-order, configuration-in, finished, reading}
+
+-- an entry that is not there
+abbrev pub nothing : Listed
+nothing = record { index = 0; sub = 0; range = u8 0 0 0 .range }
+
+-- the entry at a slot, and the bytes of the records before it
+unfoldable pub entry : List Listed → ℕ → Listed
+entry [] slot = nothing
+entry (e ∷ es) zero = e
+entry (e ∷ es) (suc slot) = entry es slot
+
+unfoldable pub offset : List Listed → ℕ → ℕ
+offset [] slot = 0
+offset (e ∷ es) zero = 0
+offset (e ∷ es) (suc slot) = 7 + size e + offset es slot
+
+pub value-at : (es : List Listed) (rest : List ℕ) (slot : ℕ) → slot < length es
+    → getD (values es rest) slot 0 ≡ data-in (size (entry es slot)) (drop (offset es slot) rest)
+unfolding values entry offset
+value-at [] rest slot h = absurd (not-suc-le-zero h)
+value-at (e ∷ es) rest zero h = refl
+value-at (e ∷ es) rest (suc slot) h =
+    value-at es (drop (7 + size e) rest) slot (le-of-suc-le-suc h)
+    ∙ ap (data-in (size (entry es slot))) (drop-drop (offset es slot) (7 + size e) rest)
+
+-- where the data of a slot stands in an image
+unfoldable pub place : ℕ → ℕ
+place slot = 4 + offset listed slot + 7
+
+-- a slot of two bytes inside an image of the right length
+unfoldable pub two-bytes : ℕ → Bool
+two-bytes slot = ltb slot 611 && (eqb (size (entry listed slot)) 2 && ltb (place slot + 1) 5207)
+
+module _ (image : List ℕ) (long : length image ≡ 5207) (many : length listed ≡ 611) where
+  pub at-its-place : (slot : ℕ) → two-bytes slot ≡ true → number-at image (place slot) ≡ held (configuration-in image) slot
+  unfolding number-at first held configuration-in two-bytes place data-in
+  at-its-place slot t =
+      let one = and-eq-true-iff (ltb slot 611) (eqb (size (entry listed slot)) 2 && ltb (place slot + 1) 5207) .0 t in
+      let two = and-eq-true-iff (eqb (size (entry listed slot)) 2) (ltb (place slot + 1) 5207) .0 (one .1) in
+      let small = ltb-true slot 611 (one .0) in
+      let near = ltb-true (place slot + 1) 5207 (two .1) in
+      let wide = eqb-true (size (entry listed slot)) 2 (two .0) in
+      let value = value-at listed (drop 4 image) slot (omega arith) in
+      rw (lt-ltb (place slot + 1) (length image) (omega arith), value, wide, drop-drop (offset listed slot) 4 image, drop-drop 7 (4 + offset listed slot) image)
+
+-- ---- a link, by names and by places
+
+unfoldable pub places : Neighbours → Pair
+places n = record { lower = place (n .lower); upper = place (n .upper); strict = n .strict }
+
+unfoldable pub sound : Neighbours → Bool
+sound n = two-bytes (n .lower) && two-bytes (n .upper)
+
+module _ (image : List ℕ) (long : length image ≡ 5207) (many : length listed ≡ 611) where
+  same-link : (n : Neighbours) → sound n ≡ true → rises image (places n) ≡ in-place (configuration-in image) n
+  unfolding sound rises rising places in-place
+  same-link n s =
+      let both = and-eq-true-iff (two-bytes (n .lower)) (two-bytes (n .upper)) .0 s in
+      rw (at-its-place image long many (n .lower) (both .0), at-its-place image long many (n .upper) (both .1))
+
+  same-links : (ns : List Neighbours) → every sound ns ≡ true → every (rises image) (map places ns) ≡ every (in-place (configuration-in image)) ns
+  unfolding every
+  same-links [] e = refl
+  same-links (n ∷ ns) e =
+      let both = and-eq-true-iff (sound n) (every sound ns) .0 e in
+      rw (same-link n (both .0), same-links ns (both .1))
+
+-- ---- what the check computes: the entries are as many, the records as long, and the links are between entries of two bytes
+
+pub counted : length listed ≡ 611
+unfolding listed
+counted = refl
+
+runs-sound : every sound runs ≡ true
+unfolding every sound two-bytes place offset entry size width listed runs
+runs-sound = refl
+
+pub ordered-by-places : (image : List ℕ) → length image ≡ 5207 → (pairs : List Pair) → pairs ≡ map places runs
+    → every (rises image) pairs ≡ in-order (configuration-in image)
+unfolding in-order
+ordered-by-places image long pairs e =
+    ap (every (rises image)) e ∙ same-links image long counted runs runs-sound ∙ ap (every (in-place (configuration-in image))) (sym chains-run)
+
+-- ---- an image whose records are good and that has nothing behind them
+
+summed : total listed ≡ 5203
+unfolding total listed size width
+summed = refl
+
+pub exact : (image : List ℕ) {n : ℕ} → walked listed (drop 4 image) ≡ Taken n → length image ≤ 4 + n → length image ≡ 5207
+exact image t h =
+    let all = takes-all listed (drop 4 image) t in
+    let room = length-drop 4 image in
+    omega (arith, summed)
+
+module _ (image : List ℕ) (n : ℕ) {records : Walked} (taken : records ≡ Taken n) where
+  pub more-behind : 4 + n < length image → Refused LeftOver ≡ finished image records
+  unfolding finished first
+  more-behind h = rw (taken, lt-ltb (4 + n) (length image) h)
+
+  module _ (h : length image ≤ 4 + n) {b : Bool} (e : b ≡ in-order (configuration-in image)) where
+    pub ordered : b ≡ true → Good ≡ finished image records
+    unfolding finished first
+    ordered t = rw (taken, le-ltb (4 + n) (length image) h, ← e, t)
+
+    pub disordered : b ≡ false → Refused OutOfOrder ≡ finished image records
+    unfolding finished first
+    disordered t = rw (taken, le-ltb (4 + n) (length image) h, ← e, t)
+
+pub not-walked : (image : List ℕ) {why : Refusal} {records : Walked} → records ≡ walked.Refused why → Refused why ≡ finished image records
+unfolding finished
+not-walked image e = rw e
+
+-- ---- the count
+
+module _ (image : List ℕ) where
+  pub no-count : length image < 4 → Refused EndedEarly ≡ reading image
+  unfolding reading first
+  no-count h = rw (lt-ltb (length image) 4 h)
+
+  pub count-read : 4 ≤ length image → little (getD image 0 0 ∷ getD image 1 0 ∷ getD image 2 0 ∷ getD image 3 0 ∷ []) ≡ little (take 4 image)
+  unfolding placed
+  count-read h = sym (ap little (part image 4 0 h))
+
+  module _ (h : 4 ≤ length image) {n : ℕ} (e : n ≡ little (take 4 image)) where
+    pub other-count : (n ≡ configured → ⊥) → Refused WrongCount ≡ reading image
+    unfolding reading first
+    other-count q = rw (le-ltb (length image) 4 h, ← e, ne-eqb n configured q)
+
+    pub right-count : n ≡ configured → finished image (walked listed (drop 4 image)) ≡ reading image
+    unfolding reading first
+    right-count q = rw (le-ltb (length image) 4 h, ← e, eq-eqb n configured q)
+
+-- what is passed on behind the count is all of it
+pub behind-count : (image : List ℕ) → take (length image - 4) (drop 4 image) ≡ drop 4 image
+behind-count image = let room = length-drop 4 image in take-all (length image - 4) (drop 4 image) (omega arith)

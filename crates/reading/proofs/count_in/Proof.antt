@@ -1,0 +1,37 @@
+-- `reading::count_in` meets its contract: the four bytes are the first (`PlaceLaws`).
+-- Assumes nothing.
+use mathlib.Core.Path.{_≡_, refl, sym, ap, _∙_}
+use Rattle.reading.proofs.PlaceLaws.{count-read}
+use borrow.Author.Needs.{needs}
+use Rattle.reading.proofs.count_in.Statement.{statement}
+use Rattle.reading.proofs.count_in.Tie as tie
+
+shared-slice-read-four : tie.Need-shared-slice-read-four
+shared-slice-read-four c = search needs
+
+shared-slice-read-four-2 : tie.Need-shared-slice-read-four-2
+shared-slice-read-four-2 c = search needs
+
+shared-slice-read-four-3 : tie.Need-shared-slice-read-four-3
+shared-slice-read-four-3 c = search needs
+
+shared-slice-read-four-4 : tie.Need-shared-slice-read-four-4
+shared-slice-read-four-4 c = search needs
+
+four-requires : tie.Need-four-requires
+four-requires c κs = search needs
+
+returns : tie.Need-returns
+returns c =
+    c .four .ensures ∙ count-read (c .before .before .before .before .before .before .args .image .now) (c .before .before .before .before .before .before .pre)
+
+pub count-in-spec : {M : Type 1} → statement M
+count-in-spec =
+    tie.close
+    (tie.spec
+    shared-slice-read-four
+    shared-slice-read-four-2
+    shared-slice-read-four-3
+    shared-slice-read-four-4
+    four-requires
+    returns)
