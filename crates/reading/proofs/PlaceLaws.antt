@@ -7,11 +7,10 @@ use Prim.Native.Nat.{ℕ, zero, suc, _+_, _-_, _<_, _≤_}
 use native.Mathlib.Nat.{le-of-suc-le-suc, not-suc-le-zero}
 use native.Mathlib.Omega.{arith}
 use lib.Dec.{ltb, eqb}
-use lib.ListN.{length, getD, take, drop, length-drop}
-use lib.Seq.{drop-drop, take-all}
-use borrow.Author.Tests.{lt-ltb, le-ltb, ltb-true, eqb-true, eq-eqb, ne-eqb}
+use lib.ListN.{length, getD, take, drop}
+use lib.Seq.{drop-drop}
+use borrow.Author.Tests.{lt-ltb, le-ltb, ltb-true, eqb-true}
 use Rattle.little.specs.Little.{little}
-use Rattle.little.proofs.Parts.{placed, part}
 use Rattle.numbers.specs.Choice.{first, every}
 use Rattle.numbers.specs.Signed.{signed16}
 use Rattle.dictionary.specs.Rows.{width, u8}
@@ -19,15 +18,14 @@ use Rattle.roles.specs.Chains.{Neighbours, chains}
 use Rattle.roles.proofs.RoleLaws.{run, runs, chains-run}
 use Rattle.entries.specs.Judge.{held}
 use Rattle.records.specs.Layout.{Listed, listed, size}
-use Rattle.records.specs.Walk.{data-in, values, walked}
-use Rattle.records.proofs.WalkLaws.{total, takes-all}
-use Rattle.records.specs.declared.types.Refusal.the-variants.{EndedEarly, WrongCount, OutOfOrder, LeftOver}
+use Rattle.records.specs.Walk.{data-in, values, taken-in}
+use Rattle.records.proofs.WalkLaws.{total, image-taken}
+use Rattle.records.specs.declared.types.Refusal.the-variants.{OutOfOrder, LeftOver}
 use Rattle.records.specs.declared.types.Walked.{Walked}
 use Rattle.records.specs.declared.types.Walked.the-variants as walked
 use Rattle.records.specs.declared.types.Walked.the-variants.{Taken}
 use Rattle.records.specs.declared.types.Refusal.{Refusal}
 use Rattle.records.specs.declared.types.Outcome.the-variants.{Good, Refused}
-use Rattle.dictionary.specs.Names.{configured}
 use Rattle.reading.specs.Places.{Pair, number-at, rising, rises, run-from, run-of}
 use Rattle.reading.specs.Reading.{in-place, in-order, configuration-in, finished, reading}
 
@@ -115,54 +113,27 @@ ordered-by-places image long pairs e =
 
 -- ---- an image whose records are good and that has nothing behind them
 
-summed : total listed ≡ 5203
+pub summed : total listed ≡ 5203
 unfolding total listed size width
 summed = refl
 
-pub exact : (image : List ℕ) {n : ℕ} → walked listed (drop 4 image) ≡ Taken n → length image ≤ 4 + n → length image ≡ 5207
-exact image t h =
-    let all = takes-all listed (drop 4 image) t in
-    let room = length-drop 4 image in
-    omega (arith, summed)
+pub exact : (image : List ℕ) {n : ℕ} → taken-in image ≡ Taken n → length image ≤ n → length image ≡ 5207
+exact image t h = let all = image-taken image t in omega (arith, summed)
 
-module _ (image : List ℕ) (n : ℕ) {records : Walked} (taken : records ≡ Taken n) where
-  pub more-behind : 4 + n < length image → Refused LeftOver ≡ finished image records
-  unfolding finished first
-  more-behind h = rw (taken, lt-ltb (4 + n) (length image) h)
+module _ (image : List ℕ) (n : ℕ) {records : Walked} (r : records ≡ taken-in image) (taken : records ≡ Taken n) where
+  pub more-behind : n < length image → Refused LeftOver ≡ reading image
+  unfolding reading finished first
+  more-behind h = rw (← r, taken, lt-ltb n (length image) h)
 
-  module _ (h : length image ≤ 4 + n) {b : Bool} (e : b ≡ in-order (configuration-in image)) where
-    pub ordered : b ≡ true → Good ≡ finished image records
-    unfolding finished first
-    ordered t = rw (taken, le-ltb (4 + n) (length image) h, ← e, t)
+  module _ (h : length image ≤ n) {b : Bool} (e : b ≡ in-order (configuration-in image)) where
+    pub ordered : b ≡ true → Good ≡ reading image
+    unfolding reading finished first
+    ordered t = rw (← r, taken, le-ltb n (length image) h, ← e, t)
 
-    pub disordered : b ≡ false → Refused OutOfOrder ≡ finished image records
-    unfolding finished first
-    disordered t = rw (taken, le-ltb (4 + n) (length image) h, ← e, t)
+    pub disordered : b ≡ false → Refused OutOfOrder ≡ reading image
+    unfolding reading finished first
+    disordered t = rw (← r, taken, le-ltb n (length image) h, ← e, t)
 
-pub not-walked : (image : List ℕ) {why : Refusal} {records : Walked} → records ≡ walked.Refused why → Refused why ≡ finished image records
-unfolding finished
-not-walked image e = rw e
-
--- ---- the count
-
-module _ (image : List ℕ) where
-  pub no-count : length image < 4 → Refused EndedEarly ≡ reading image
-  unfolding reading first
-  no-count h = rw (lt-ltb (length image) 4 h)
-
-  pub count-read : 4 ≤ length image → little (getD image 0 0 ∷ getD image 1 0 ∷ getD image 2 0 ∷ getD image 3 0 ∷ []) ≡ little (take 4 image)
-  unfolding placed
-  count-read h = sym (ap little (part image 4 0 h))
-
-  module _ (h : 4 ≤ length image) {n : ℕ} (e : n ≡ little (take 4 image)) where
-    pub other-count : (n ≡ configured → ⊥) → Refused WrongCount ≡ reading image
-    unfolding reading first
-    other-count q = rw (le-ltb (length image) 4 h, ← e, ne-eqb n configured q)
-
-    pub right-count : n ≡ configured → finished image (walked listed (drop 4 image)) ≡ reading image
-    unfolding reading first
-    right-count q = rw (le-ltb (length image) 4 h, ← e, eq-eqb n configured q)
-
--- what is passed on behind the count is all of it
-pub behind-count : (image : List ℕ) → take (length image - 4) (drop 4 image) ≡ drop 4 image
-behind-count image = let room = length-drop 4 image in take-all (length image - 4) (drop 4 image) (omega arith)
+pub not-walked : (image : List ℕ) {why : Refusal} {records : Walked} → records ≡ taken-in image → records ≡ walked.Refused why → Refused why ≡ reading image
+unfolding reading finished
+not-walked image r e = rw (← r, e)

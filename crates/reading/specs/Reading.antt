@@ -1,19 +1,17 @@
 -- "Readings refuse, records in order": what reading an image finds.
 -- Assumes nothing.
-use Prim.Native.Nat.{ℕ, _+_}
+use Prim.Native.Nat.{ℕ}
 use mathlib.Core.Bool.{Bool, not}
 use mathlib.Core.List.{List}
-use lib.Dec.{eqb, ltb}
-use lib.ListN.{length, take, drop}
-use Rattle.little.specs.Little.{little}
+use lib.Dec.{ltb}
+use lib.ListN.{length, drop}
 use Rattle.numbers.specs.Choice.{first, every}
 use Rattle.numbers.specs.Order.{below}
-use Rattle.dictionary.specs.Names.{configured}
 use Rattle.roles.specs.Chains.{Neighbours, chains}
 use Rattle.entries.specs.Judge.{held}
 use Rattle.records.specs.Layout.{listed}
-use Rattle.records.specs.Walk.{walked, values}
-use Rattle.records.specs.declared.types.Refusal.the-variants.{EndedEarly, WrongCount, OutOfOrder, LeftOver}
+use Rattle.records.specs.Walk.{taken-in, values}
+use Rattle.records.specs.declared.types.Refusal.the-variants.{OutOfOrder, LeftOver}
 use Rattle.records.specs.declared.types.Walked.{Walked}
 use Rattle.records.specs.declared.types.Walked.the-variants.{Taken, Refused}
 use Rattle.records.specs.declared.types.Outcome.{Outcome}
@@ -34,13 +32,9 @@ configuration-in image = values listed (drop 4 image)
 -- "then 7 bytes left over; then 6 chain"
 unfoldable pub finished : List ℕ → Walked → Outcome
 finished image (Taken n) =
-    first (ltb (4 + n) (length image)) (outcome.Refused LeftOver)
+    first (ltb n (length image)) (outcome.Refused LeftOver)
     (first (not (in-order (configuration-in image))) (outcome.Refused OutOfOrder) outcome.Good)
 finished image (Refused why) = outcome.Refused why
 
--- "1 ended early; 2 count not 611", then the records
 unfoldable pub reading : List ℕ → Outcome
-reading image =
-    first (ltb (length image) 4) (outcome.Refused EndedEarly)
-    (first (not (eqb (little (take 4 image)) configured)) (outcome.Refused WrongCount)
-    (finished image (walked listed (drop 4 image))))
+reading image = finished image (taken-in image)

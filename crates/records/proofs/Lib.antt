@@ -1,2 +1,4 @@
+pub mod FindLaws
+pub mod RightLaws
 pub mod TakeLaws
 pub mod WalkLaws

@@ -1,12 +1,12 @@
 -- One record, part by part and test by test.
 -- Assumes nothing.
 use mathlib.Core.Path.{_≡_, refl, sym, ap, _∙_}
-use mathlib.Core.Bool.{Bool, true, false}
+use mathlib.Core.Bool.{Bool, true, false, _||_}
 use mathlib.Core.List.{List, [], _∷_}
 use Prim.Native.Nat.{ℕ, zero, suc, _+_, _<_, _≤_}
 use native.Mathlib.Omega.{arith}
 use lib.Dec.{eqb, ltb}
-use lib.ListN.{length, getD}
+use lib.ListN.{length, getD, take}
 use borrow.Author.Tests.{lt-ltb, le-ltb, eq-eqb, ne-eqb}
 use Rattle.little.specs.Little.{little}
 use Rattle.little.proofs.Parts.{placed, part}
@@ -18,7 +18,7 @@ use Rattle.entries.specs.Judge.{in-range, is-good}
 use Rattle.roles.specs.Roles.{ranged}
 use Rattle.records.specs.Layout.{Listed, size}
 use Rattle.records.specs.Rows.{role-at, entry-at}
-use Rattle.records.specs.Walk.{index-in, sub-in, size-in, data-in, fits, valued, decoded}
+use Rattle.records.specs.Walk.{index-in, sub-in, size-in, data-in, data-there, fits, valued, decoded}
 use Rattle.records.specs.declared.types.Refusal.the-variants.{EndedEarly, NotNext, WrongSize, OutOfRange}
 use Rattle.records.specs.declared.types.Walked.{Walked}
 use Rattle.records.specs.declared.types.Walked.the-variants.{Taken, Refused}
@@ -34,25 +34,41 @@ module _ (rest : List ℕ) where
   unfolding size-in placed
   size-read h = sym (ap little (part rest 4 3 (omega arith)))
 
-  pub data-1 : {n : ℕ} → 7 + n ≤ length rest → n ≡ 1 → little (getD rest 7 0 ∷ 0 ∷ 0 ∷ 0 ∷ []) ≡ data-in n rest
-  unfolding data-in little placed
-  data-1 h e = rw (e, part rest 1 7 (omega arith)) (omega arith)
+  pub count-read : 4 ≤ length rest → little (getD rest 0 0 ∷ getD rest 1 0 ∷ getD rest 2 0 ∷ getD rest 3 0 ∷ []) ≡ little (take 4 rest)
+  unfolding placed
+  count-read h = sym (ap little (part rest 4 0 h))
 
-  pub data-2 : {n : ℕ} → 7 + n ≤ length rest → n ≡ 2 → little (getD rest 7 0 ∷ getD rest 8 0 ∷ 0 ∷ 0 ∷ []) ≡ data-in n rest
-  unfolding data-in little placed
-  data-2 h e = rw (e, part rest 2 7 (omega arith)) (omega arith)
+  pub data-cut : (n : ℕ) → length rest < 7 + n → 0 ≡ data-there n rest
+  unfolding data-there first
+  data-cut n h = rw (lt-ltb (length rest) (7 + n) h)
 
-  pub data-4 : {n : ℕ} → 7 + n ≤ length rest → n ≡ 4 → little (getD rest 7 0 ∷ getD rest 8 0 ∷ getD rest 9 0 ∷ getD rest 10 0 ∷ []) ≡ data-in n rest
-  unfolding data-in placed
-  data-4 h e = rw (e, part rest 4 7 (omega arith))
+  module _ (n : ℕ) (h : 7 + n ≤ length rest) where
+    pub data-1 : n ≡ 1 → little (getD rest 7 0 ∷ 0 ∷ 0 ∷ 0 ∷ []) ≡ data-there n rest
+    unfolding data-there data-in little placed first
+    data-1 e = rw (le-ltb (length rest) (7 + n) h, e, part rest 1 7 (omega arith)) (omega arith)
+
+    pub data-2 : n ≡ 2 → little (getD rest 7 0 ∷ getD rest 8 0 ∷ 0 ∷ 0 ∷ []) ≡ data-there n rest
+    unfolding data-there data-in little placed first
+    data-2 e = rw (le-ltb (length rest) (7 + n) h, e, part rest 2 7 (omega arith)) (omega arith)
+
+    pub data-4 : n ≡ 4 → little (getD rest 7 0 ∷ getD rest 8 0 ∷ getD rest 9 0 ∷ getD rest 10 0 ∷ []) ≡ data-there n rest
+    unfolding data-there data-in placed first
+    data-4 e = rw (le-ltb (length rest) (7 + n) h, e, part rest 4 7 (omega arith))
+
+    pub data-else : (n ≡ 1 → ⊥) → (n ≡ 2 → ⊥) → (n ≡ 4 → ⊥) → 0 ≡ data-there n rest
+    unfolding data-there first
+    data-else a b c = rw (le-ltb (length rest) (7 + n) h, ne-eqb n 1 a, ne-eqb n 2 b, ne-eqb n 4 c)
 
 -- a type has one, two or four bytes
-pub three-sizes : (kind : Kind) → (width kind ≡ 1 → ⊥) → (width kind ≡ 2 → ⊥) → width kind ≡ 4
-unfolding width
-three-sizes Unsigned8 a b = absurd (a refl)
-three-sizes Integer16 a b = absurd (b refl)
-three-sizes Unsigned16 a b = absurd (b refl)
-three-sizes Real32 a b = refl
+pub is-there : (kind : Kind) (rest : List ℕ) {n : ℕ} → n ≡ width kind → 7 + n ≤ length rest → data-there n rest ≡ data-in n rest
+unfolding data-there first width
+is-there kind rest {n} e h = rw (le-ltb (length rest) (7 + n) h, e) (go kind)
+  where
+    go : (kind : Kind) → first (eqb (width kind) 1 || (eqb (width kind) 2 || eqb (width kind) 4)) (data-in (width kind) rest) 0 ≡ data-in (width kind) rest
+    go Unsigned8 = refl
+    go Integer16 = refl
+    go Unsigned16 = refl
+    go Real32 = refl
 
 pub at-most-four : (kind : Kind) → width kind ≤ 4
 unfolding width

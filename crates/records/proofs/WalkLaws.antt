@@ -9,13 +9,15 @@ use native.Mathlib.Omega.{arith}
 use lib.Dec.{eqb, ltb}
 use lib.ListN.{length, getD, take, drop, length-drop, drop-of-length-le}
 use lib.Seq.{drop-cons, drop-drop, take-all}
-use borrow.Author.Tests.{ltb-false}
+use borrow.Author.Tests.{lt-ltb, le-ltb, ltb-false, eq-eqb, ne-eqb}
+use Rattle.little.specs.Little.{little}
 use Rattle.numbers.specs.Choice.{first}
+use Rattle.dictionary.specs.Names.{configured}
 use Rattle.records.specs.Layout.{Listed, size, listed}
 use Rattle.records.specs.Rows.{row-from, row-of, entry-at, first-sub, last-sub}
-use Rattle.records.specs.Walk.{index-in, sub-in, size-in, data-in, fits, valued, decoded, behind, and-then, walked}
+use Rattle.records.specs.Walk.{index-in, sub-in, size-in, data-in, fits, valued, decoded, behind, and-then, walked, taken-in}
 use Rattle.records.specs.declared.types.Refusal.{Refusal}
-use Rattle.records.specs.declared.types.Refusal.the-variants.{EndedEarly, NotNext, WrongSize, OutOfRange}
+use Rattle.records.specs.declared.types.Refusal.the-variants.{EndedEarly, WrongCount, NotNext, WrongSize, OutOfRange}
 use Rattle.records.specs.declared.types.Walked.{Walked}
 use Rattle.records.specs.declared.types.Walked.the-variants.{Taken, Refused}
 
@@ -208,3 +210,56 @@ pub rows-start : (es : List Listed) (rows body : List ℕ) → es ≡ flatMap ro
 rows-start es rows body e =
     let none : 0 ≡ length body - length body = omega arith in
     ap (λ (l : List Listed). walked l body) e ∙ sym (behind-none _) ∙ ap (λ (m : ℕ). behind m (walked (flatMap row-of rows) body)) none
+
+-- ---- the whole image
+
+module _ (image : List ℕ) where
+  pub no-count : length image < 4 → Refused EndedEarly ≡ taken-in image
+  unfolding taken-in first
+  no-count h = rw (lt-ltb (length image) 4 h)
+
+  module _ (h : 4 ≤ length image) {n : ℕ} (e : n ≡ little (take 4 image)) where
+    pub other-count : (n ≡ configured → ⊥) → Refused WrongCount ≡ taken-in image
+    unfolding taken-in first
+    other-count q = rw (le-ltb (length image) 4 h, ← e, ne-eqb n configured q)
+
+    module _ (q : n ≡ configured) {es : List Listed} (l : es ≡ listed) {w : Walked} (r : w ≡ walked es (onward 4 image)) where
+      counted : taken-in image ≡ behind 4 w
+      unfolding taken-in first
+      counted =
+          let room = length-drop 4 image in
+          let part = take-all (length image - 4) (drop 4 image) (omega arith) in
+          rw (le-ltb (length image) 4 h, ← e, eq-eqb n configured q, r, l, part)
+
+      pub records-refused : {why : Refusal} → w ≡ Refused why → w ≡ taken-in image
+      unfolding behind
+      records-refused t = t ∙ sym (counted ∙ rw t)
+
+      pub records-taken : {m : ℕ} → w ≡ Taken m → Taken (4 + m) ≡ taken-in image
+      unfolding behind
+      records-taken t = sym (counted ∙ rw t)
+
+      pub records-fit : {m : ℕ} → w ≡ Taken m → 4 + m ≤ length image
+      records-fit t =
+          let fit = takes-all es (onward 4 image) (sym r ∙ t) in
+          let room = length-drop 4 image in
+          let part = take-all (length image - 4) (drop 4 image) (omega arith) in
+          let same = ap length part in
+          omega arith
+
+-- a whole image is taken to the end of its records
+pub image-taken : (image : List ℕ) {n : ℕ} → taken-in image ≡ Taken n → (n ≡ 4 + total listed) × (n ≤ length image)
+unfolding taken-in first behind
+image-taken image {n} t = go (ltb (length image) 4) refl (eqb (little (take 4 image)) configured) (walked listed (drop 4 image)) (λ m q. takes-all listed (drop 4 image) q) t
+  where
+    go : (short : Bool) → ltb (length image) 4 ≡ short → (counted : Bool) (w : Walked) → ((m : ℕ) → w ≡ Taken m → (m ≡ total listed) × (m ≤ length (drop 4 image)))
+        → first short (Refused EndedEarly) (first (not counted) (Refused WrongCount) (behind 4 w)) ≡ Taken n → (n ≡ 4 + total listed) × (n ≤ length image)
+    go true s counted w q t = absurd (not-both t)
+    go false s false w q t = absurd (not-both t)
+    go false s true (Refused why) q t = absurd (not-both t)
+    go false s true (Taken m) q t =
+        let long = ltb-false (length image) 4 s in
+        let all = q m refl in
+        let sum : n ≡ 4 + m = cc in
+        let room = length-drop 4 image in
+        (omega arith, omega arith)

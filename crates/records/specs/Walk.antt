@@ -1,14 +1,15 @@
 -- "Readings refuse, records in order": what bytes are as the records of some entries, one after the other.
 -- Assumes nothing.
 use Prim.Native.Nat.{ℕ, _+_}
-use mathlib.Core.Bool.{Bool, not}
+use mathlib.Core.Bool.{Bool, not, _||_}
 use mathlib.Core.List.{List, [], _∷_}
 use lib.Dec.{eqb, ltb}
 use lib.ListN.{length, getD, take, drop}
 use Rattle.little.specs.Little.{little}
 use Rattle.numbers.specs.Choice.{first}
+use Rattle.dictionary.specs.Names.{configured}
 use Rattle.entries.specs.Judge.{in-range, is-good}
-use Rattle.records.specs.Layout.{Listed, size}
+use Rattle.records.specs.Layout.{Listed, listed, size}
 use Rattle.records.specs.declared.types.Refusal.{Refusal}
 use Rattle.records.specs.declared.types.Refusal.the-variants.{EndedEarly, WrongCount, NotNext, WrongSize, OutOfRange, OutOfOrder, LeftOver, NoRoom}
 use Rattle.records.specs.declared.types.Outcome.{Outcome}
@@ -45,6 +46,11 @@ size-in rest = little (take 4 (drop 3 rest))
 unfoldable pub data-in : ℕ → List ℕ → ℕ
 data-in n rest = little (take n (drop 7 rest))
 
+-- the data of one, two or four bytes, if they are there
+unfoldable pub data-there : ℕ → List ℕ → ℕ
+data-there n rest =
+    first (ltb (length rest) (7 + n)) 0 (first (eqb n 1 || (eqb n 2 || eqb n 4)) (data-in n rest) 0)
+
 -- a value may stand in its own range
 unfoldable pub fits : Listed → ℕ → Bool
 fits e word = is-good (in-range (e .range) word)
@@ -78,6 +84,13 @@ and-then (Refused why) next = Refused why
 unfoldable pub walked : List Listed → List ℕ → Walked
 walked [] rest = Taken 0
 walked (e ∷ es) rest = and-then (decoded e rest) (walked es (drop (7 + size e) rest))
+
+-- "1 ended early; 2 count not 611", then the records
+unfoldable pub taken-in : List ℕ → Walked
+taken-in image =
+    first (ltb (length image) 4) (Refused EndedEarly)
+    (first (not (eqb (little (take 4 image)) configured)) (Refused WrongCount)
+    (behind 4 (walked listed (drop 4 image))))
 
 -- the words that the records hold
 unfoldable pub values : List Listed → List ℕ → List ℕ

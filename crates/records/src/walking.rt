@@ -1,12 +1,14 @@
-// All records of an image, row after row.
+// An image from its front: the count, then the records, row after row.
 ghost use mathlib.Core.Path.{_≡_};
 ghost use mathlib.Core.List.{flatMap};
-ghost use Rattle.records.specs.Layout.{listed};
 ghost use Rattle.records.specs.Rows.{row-of};
-ghost use Rattle.records.specs.Walk.{walked};
+ghost use Rattle.records.specs.Walk.{walked, taken-in};
+use super::heads::count_in;
 use super::rows::ROWS;
 use super::taking::take_row;
+use super::types::Refusal;
 use super::types::Walked;
+use dictionary::slots::EC_VALUE;
 
 // The records of some rows, one after the other.
 fn walk_rows(body: &[u8], rows: &[u32]) -> Walked
@@ -25,10 +27,20 @@ fn walk_rows(body: &[u8], rows: &[u32]) -> Walked
     Walked::Taken(body.len() - rest.len())
 }
 
-// Any bytes: those behind the count of an image.
-pub fn walk(body: &[u8]) -> Walked
-    ensures { λ r. ⌜ r ≡ walked listed (now (body .entry)) ⌝ }
+// Any bytes, as an image: its count, then its records.
+pub fn walk(image: &[u8]) -> Walked
+    ensures { λ r. ⌜ r ≡ taken-in (now (image .entry)) ⌝ }
 {
+    if image.len() < 4 {
+        return Walked::Refused(Refusal::EndedEarly);
+    }
+    if count_in(image) as usize != EC_VALUE {
+        return Walked::Refused(Refusal::WrongCount);
+    }
     let rows = ROWS;
-    walk_rows(body, &rows)
+    let records = walk_rows(&image[4..], &rows);
+    let Walked::Taken(n) = records else {
+        return records;
+    };
+    Walked::Taken(4 + n)
 }

@@ -1,64 +1,49 @@
--- `reading::check` meets its contract: the count, then the records, then what is left to find (`PlaceLaws`).
+-- `reading::check` meets its contract, test by test (`PlaceLaws`).
 -- Assumes nothing.
-use mathlib.Core.Path.{_≡_, refl, sym, ap, _∙_}
-use native.Mathlib.Omega.{arith}
-use mathlib.Core.List.{List}
-use Prim.Native.Nat.{ℕ}
-use Rattle.records.specs.Layout.{listed}
-use Rattle.records.specs.Walk.{walked}
-use Rattle.dictionary.specs.Names.{configured}
-use Rattle.reading.specs.Reading.{finished}
-use Rattle.reading.proofs.PlaceLaws.{no-count, other-count, right-count, behind-count}
+use mathlib.Core.Path.{_≡_, sym, _∙_}
+use Rattle.reading.proofs.PlaceLaws.{exact, not-walked, more-behind, ordered, disordered}
 use borrow.Author.Needs.{needs}
 use Rattle.reading.proofs.check.Statement.{statement}
 use Rattle.reading.proofs.check.Tie as tie
 
-returns : tie.Need-returns
-returns c = no-count _ (c .if1 .taken)
-
-count-in-requires : tie.Need-count-in-requires
-count-in-requires c κs = search needs
-
-cast-if2 : tie.Need-cast-if2
-cast-if2 c = search needs
-
-returns-2 : tie.Need-returns-2
-unfolding configured
-returns-2 c =
-    other-count (c .before .before .before .before .args .image .now) (c .before .before .if1 .left) (c .before .count-in .ensures) (c .if2 .taken)
-
-sub-walk : tie.Need-sub-walk
-sub-walk c = search needs
-
-part-walk-start : tie.Need-part-walk-start
-part-walk-start c = search needs
-
-part-walk-end : tie.Need-part-walk-end
-part-walk-end c = search needs
-
 walk-requires : tie.Need-walk-requires
 walk-requires c κs = search needs
 
-finish-requires : tie.Need-finish-requires
-finish-requires c κs =
-    (c .before .before .before .before .if1 .left, c .walk .ensures ∙ ap (walked listed) (behind-count (c .before .before .before .before .before .before .args .image .now)))
+enum-known-why : tie.Need-enum-known-why
+enum-known-why c = search needs
+
+enum-known-n : tie.Need-enum-known-n
+enum-known-n c = search needs
+
+returns : tie.Need-returns
+returns c =
+    more-behind (c .before .before .before .before .before .before .args .image .now) _ (c .before .before .before .before .walk .ensures) (c .before .before .n .given .1) (c .if1 .taken)
+
+in-order-requires : tie.Need-in-order-requires
+in-order-requires c κs =
+    exact (c .before .before .before .before .before .before .args .image .now) (sym (c .before .before .before .before .walk .ensures) ∙ c .before .before .n .given .1) (c .if1 .left)
+
+returns-2 : tie.Need-returns-2
+returns-2 c =
+    ordered (c .before .before .before .before .before .before .before .before .args .image .now) _ (c .before .before .before .before .before .before .walk .ensures) (c .before .before .before .before .n .given .1) (c .before .before .if1 .left) (c .before .in-order .ensures) (c .if2 .taken)
 
 returns-3 : tie.Need-returns-3
-unfolding configured
 returns-3 c =
-    let image = c .before .before .before .before .before .before .before .args .image .now in c .finish .ensures ∙ ap (finished image) (c .before .walk .ensures ∙ ap (walked listed) (behind-count image)) ∙ right-count image (c .before .before .before .before .before .if1 .left) (c .before .before .before .before .count-in .ensures) (c .before .before .before .if2 .left)
+    not-walked (c .before .before .before .before .before .args .image .now) (c .before .before .before .walk .ensures) (c .before .why .given .1)
+
+returns-4 : tie.Need-returns-4
+returns-4 c =
+    disordered (c .before .before .before .before .before .before .before .before .args .image .now) _ (c .before .before .before .before .before .before .walk .ensures) (c .before .before .before .before .n .given .1) (c .before .before .if1 .left) (c .before .in-order .ensures) (c .if2 .left)
 
 pub check-spec : {M : Type 1} → statement M
 check-spec =
     tie.close
     (tie.spec
-    returns
-    count-in-requires
-    cast-if2
-    returns-2
-    sub-walk
-    part-walk-start
-    part-walk-end
     walk-requires
-    finish-requires
-    returns-3)
+    enum-known-why
+    enum-known-n
+    returns
+    in-order-requires
+    returns-2
+    returns-3
+    returns-4)

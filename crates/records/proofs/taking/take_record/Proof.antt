@@ -1,6 +1,6 @@
 -- `records::taking::take_record` meets its contract, test by test (`TakeLaws`).
 -- Assumes nothing.
-use mathlib.Core.Path.{_≡_, sym, ap, _∙_}
+use mathlib.Core.Path.{_≡_, refl, sym, ap, _∙_}
 use native.Mathlib.Omega.{arith}
 use Rattle.records.specs.Rows.{entry-at}
 use Rattle.records.specs.Walk.{sub-in}
@@ -36,9 +36,6 @@ role-at-requires c κs = search needs
 width-of-requires : tie.Need-width-of-requires
 width-of-requires c κs = search needs
 
-cast-size : tie.Need-cast-size
-cast-size c = search needs
-
 size-in-requires : tie.Need-size-in-requires
 size-in-requires c κs = search needs
 
@@ -70,7 +67,6 @@ take-record-spec =
     returns-3
     role-at-requires
     width-of-requires
-    cast-size
     size-in-requires
     cast-if4
     returns-4

@@ -1,10 +1,10 @@
--- `records::taking::index_in` meets its contract: the two bytes are the first (`TakeLaws`).
+-- `records::heads::index_in` meets its contract: the two bytes are the first (`TakeLaws`).
 -- Assumes nothing.
 use mathlib.Core.Path.{_≡_, sym, ap, _∙_}
 use Rattle.records.proofs.TakeLaws.{index-read}
 use borrow.Author.Needs.{needs}
-use Rattle.records.proofs.taking.index_in.Statement.{statement}
-use Rattle.records.proofs.taking.index_in.Tie as tie
+use Rattle.records.proofs.heads.index_in.Statement.{statement}
+use Rattle.records.proofs.heads.index_in.Tie as tie
 
 shared-slice-read-two : tie.Need-shared-slice-read-two
 shared-slice-read-two c = search needs

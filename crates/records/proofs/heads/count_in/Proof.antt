@@ -1,10 +1,10 @@
--- `reading::count_in` meets its contract: the four bytes are the first (`PlaceLaws`).
+-- `records::heads::count_in` meets its contract: the four bytes are the first (`TakeLaws`).
 -- Assumes nothing.
 use mathlib.Core.Path.{_≡_, refl, sym, ap, _∙_}
-use Rattle.reading.proofs.PlaceLaws.{count-read}
+use Rattle.records.proofs.TakeLaws.{count-read}
 use borrow.Author.Needs.{needs}
-use Rattle.reading.proofs.count_in.Statement.{statement}
-use Rattle.reading.proofs.count_in.Tie as tie
+use Rattle.records.proofs.heads.count_in.Statement.{statement}
+use Rattle.records.proofs.heads.count_in.Tie as tie
 
 shared-slice-read-four : tie.Need-shared-slice-read-four
 shared-slice-read-four c = search needs

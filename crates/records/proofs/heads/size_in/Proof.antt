@@ -1,10 +1,10 @@
--- `records::taking::size_in` meets its contract: the four bytes stand behind the name (`TakeLaws`).
+-- `records::heads::size_in` meets its contract: the four bytes stand behind the name (`TakeLaws`).
 -- Assumes nothing.
 use mathlib.Core.Path.{_≡_, sym, ap, _∙_}
 use Rattle.records.proofs.TakeLaws.{size-read}
 use borrow.Author.Needs.{needs}
-use Rattle.records.proofs.taking.size_in.Statement.{statement}
-use Rattle.records.proofs.taking.size_in.Tie as tie
+use Rattle.records.proofs.heads.size_in.Statement.{statement}
+use Rattle.records.proofs.heads.size_in.Tie as tie
 
 shared-slice-read-four : tie.Need-shared-slice-read-four
 shared-slice-read-four c = search needs
