@@ -7,6 +7,7 @@ use native.Mathlib.Omega.{arith}
 use lib.ListN.{length, getD, set, take, drop, replicate}
 use Rattle.dictionary.specs.Unit.{unit-size}
 use Rattle.entries.specs.Valid.{Valid}
+use Rattle.configuration.proofs.Start.{valid-at-start}
 use Rattle.sdo.specs.Answers.{offered, writing, obeyed, answer}
 use Rattle.sdo.specs.Frames.{name-in, data-in, command-of, read-command, reply-to}
 use Rattle.sdo.specs.Served.{after, filled}
@@ -17,7 +18,6 @@ use Rattle.promises.specs.Serving.{Bytes, Untouched, Determined, Reads-b
 use Rattle.promises.proofs.Accepted.{accepted}
 use Rattle.promises.proofs.Judged.{judged-same}
 use Rattle.promises.proofs.ReadBack.{reply-back}
-use Rattle.promises.proofs.Start.{valid-at-start}
 use Rattle.promises.proofs.Writing.{still-valid}
 
 pub untouched : Untouched

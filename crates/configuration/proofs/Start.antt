@@ -17,7 +17,7 @@ use Rattle.entries.specs.Judge.{number-of, finite, within, in-range, held, past
 use Rattle.entries.specs.Valid.{Valid}
 use Rattle.roles.specs.Values.{range-of, starts, at-start}
 use Rattle.entries.specs.declared.types.Verdict.the-variants.{Good}
-use Rattle.promises.proofs.Configuration.{at-each}
+use Rattle.configuration.proofs.Configuration.{at-each}
 
 sizes-computed : tabulate configured 0 (λ slot. ltb (getD at-start slot 0) (256 ^ width (range-of slot .kind))) ≡ tabulate configured 0 (λ slot. true)
 unfolding tabulate configured at-start starts range-of width

@@ -17,7 +17,7 @@ use Rattle.roles.specs.Chains.{chains, upper-in, lower-in, upper-of, lower-of}
 use Rattle.entries.specs.Judge.{held, past-upper, past-lower}
 use Rattle.roles.specs.declared.types.Link.{Link}
 use Rattle.roles.specs.declared.types.Link.the-variants.{Free, Loose, Strict}
-use Rattle.promises.proofs.Configuration.{at-each}
+use Rattle.configuration.proofs.Configuration.{at-each}
 
 -- a test that the neighbour passes, if there is one
 unfoldable pub near : (ℕ → Bool) → Link → Bool
