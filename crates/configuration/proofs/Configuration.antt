@@ -5,8 +5,8 @@ use Prim.Native.Nat.{ℕ, _<_}
 use native.Mathlib.Omega.{arith}
 use Rattle.dictionary.specs.Names.{configured, writable}
 use Rattle.dictionary.specs.Unit.{signals-at, runs-at, flags-at, unit-size}
-use Rattle.dictionary.proofs.NameLaws.{counted}
 use Rattle.dictionary.proofs.Tabulate.{tabulate, agree}
+use Rattle.naming.proofs.NameLaws.{counted}
 
 pub at-each : {A : Type 0} (f g : ℕ → A) → tabulate configured 0 f ≡ tabulate configured 0 g → (slot : ℕ) → slot < configured → f slot ≡ g slot
 at-each f g e = agree configured f g (f 0) e

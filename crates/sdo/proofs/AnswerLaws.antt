@@ -13,9 +13,9 @@ use borrow.Author.Tests.{lt-ltb, le-ltb, eq-eqb, ne-eqb, leb-true, eqb-true, eqb
 use Rattle.numbers.specs.Choice.{first}
 use Rattle.dictionary.specs.Names.{find, slot-found, words, writable}
 use Rattle.dictionary.specs.Unit.{unit-size}
-use Rattle.dictionary.proofs.NameLaws.{found-below}
 use Rattle.dictionary.specs.declared.types.Found.{Found}
 use Rattle.dictionary.specs.declared.types.Found.the-variants as found
+use Rattle.naming.proofs.NameLaws.{found-below}
 use Rattle.entries.specs.Judge.{judged}
 use Rattle.entries.specs.declared.types.Verdict.{Verdict}
 use Rattle.sdo.specs.Answers.{size-of, reading, stored, offered, refused, writing, obeyed, silent, answer}

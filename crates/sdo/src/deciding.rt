@@ -13,13 +13,13 @@ use super::data::sub_in;
 use super::types::Abort;
 use super::types::Answer;
 use super::types::Command;
-use dictionary::names::find;
 use dictionary::slots::ERROR_REGISTER;
 use dictionary::slots::Unit;
 use dictionary::types::Found;
 use entries::judging::judge;
 use entries::ranges::width;
 use entries::types::Verdict;
+use naming::find;
 
 fn read(unit: &Unit, found: Found) -> Answer
     requires { ⌜ slot-found found < unit-size ⌝ }

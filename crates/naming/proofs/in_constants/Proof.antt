@@ -1,11 +1,11 @@
--- `dictionary::names::in_constants` meets its contract: the short account of an index gives what the index with its sub names (`NameLaws`).
+-- `naming::in_constants` meets its contract: the short account of an index gives what the index with its sub names (`NameLaws`).
 -- Assumes nothing.
 use native.Mathlib.Omega.{arith}
 use borrow.Author.Needs.{needs}
-use Rattle.dictionary.proofs.NameLaws.{constants-count, constants-fixed, constants-value, constants-none}
+use Rattle.naming.proofs.NameLaws.{constants-count, constants-fixed, constants-value, constants-none}
 use Rattle.dictionary.specs.Names.{slot-of}
-use Rattle.dictionary.proofs.names.in_constants.Statement.{statement}
-use Rattle.dictionary.proofs.names.in_constants.Tie as tie
+use Rattle.naming.proofs.in_constants.Statement.{statement}
+use Rattle.naming.proofs.in_constants.Tie as tie
 
 returns : tie.Need-returns
 returns c = constants-count _ (c .if1 .taken)

@@ -1,13 +1,13 @@
--- `dictionary::names::find` meets its contract: the short account of an index gives what the index with its sub names (`NameLaws`).
+-- `naming::find` meets its contract: the short account of an index gives what the index with its sub names (`NameLaws`).
 -- Assumes nothing.
 use mathlib.Core.Path.{_∙_}
 use borrow.Author.Needs.{needs}
-use Rattle.dictionary.proofs.NameLaws.{by-object, array-of}
+use Rattle.naming.proofs.NameLaws.{by-object, array-of}
 use Rattle.dictionary.specs.Names.{named}
 use Rattle.dictionary.specs.Objects.{meant}
 use Rattle.dictionary.specs.declared.objects.Object.the-variants.{Unknown, Constants}
-use Rattle.dictionary.proofs.names.find.Statement.{statement}
-use Rattle.dictionary.proofs.names.find.Tie as tie
+use Rattle.naming.proofs.find.Statement.{statement}
+use Rattle.naming.proofs.find.Tie as tie
 
 rows-of-requires : tie.Need-rows-of-requires
 rows-of-requires c κs = search needs

@@ -1,10 +1,10 @@
--- `dictionary::names::in_array` meets its contract: the short account of an index gives what the index with its sub names (`NameLaws`).
+-- `naming::in_array` meets its contract: the short account of an index gives what the index with its sub names (`NameLaws`).
 -- Assumes nothing.
 use native.Mathlib.Omega.{arith}
 use borrow.Author.Needs.{needs}
-use Rattle.dictionary.proofs.NameLaws.{array-count, array-value, array-none}
-use Rattle.dictionary.proofs.names.in_array.Statement.{statement}
-use Rattle.dictionary.proofs.names.in_array.Tie as tie
+use Rattle.naming.proofs.NameLaws.{array-count, array-value, array-none}
+use Rattle.naming.proofs.in_array.Statement.{statement}
+use Rattle.naming.proofs.in_array.Tie as tie
 
 returns : tie.Need-returns
 returns c = array-count _ _ _ (omega arith) (c .if1 .taken)
