@@ -11,10 +11,10 @@ use controller::tick::tick;
 use dictionary::slots::COMMAND;
 use dictionary::slots::ERROR_REGISTER;
 use dictionary::slots::Unit;
+use frames::types::Answer;
 use lines::reading::Verb;
 use lines::reading::read;
 use sdo::serving::serve;
-use sdo::types::Answer;
 use unit::words::byte_at;
 use unit::words::whole_at;
 

@@ -18,10 +18,10 @@ use Rattle.roles.specs.Values.{range-of, starts, at-start}
 use Rattle.configuration.proofs.Configuration.{can-be-written}
 use Rattle.configuration.proofs.Neighbours.{upper-another, is-another, another, upper-same}
 use Rattle.configuration.proofs.Start.{valid-at-start}
-use Rattle.sdo.specs.Answers.{answer}
+use Rattle.frames.specs.Answers.{answer}
+use Rattle.frames.specs.declared.types.Answer.{Answer}
+use Rattle.frames.specs.declared.types.Answer.the-variants.{Silent, Aborted, Value, Written}
 use Rattle.sdo.specs.Served.{Served, after}
-use Rattle.sdo.specs.declared.types.Answer.{Answer}
-use Rattle.sdo.specs.declared.types.Answer.the-variants.{Silent, Aborted, Value, Written}
 use Rattle.unit.specs.Entry.{entry}
 use Rattle.inputs.specs.Inputs.{memory}
 use Rattle.controller.specs.Tick.{anyFlagged, ticked}

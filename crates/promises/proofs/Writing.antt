@@ -24,8 +24,8 @@ use Rattle.roles.specs.declared.types.Link.the-variants.{Free, Loose, Strict}
 use Rattle.entries.specs.declared.types.Verdict.the-variants.{Good}
 use Rattle.configuration.proofs.Configuration.{in-unit}
 use Rattle.configuration.proofs.Neighbours.{near, another, is-another, upper-another, back-down, turned, both-ways, upper-same}
-use Rattle.sdo.specs.Answers.{size-of}
-use Rattle.sdo.specs.Frames.{data-in}
+use Rattle.frames.specs.Answers.{size-of}
+use Rattle.frames.specs.Frames.{data-in}
 use Rattle.promises.specs.Serving.{Bytes}
 use Rattle.promises.proofs.Accepted.{Accepted}
 use Rattle.promises.proofs.ByteLaws.{bytes-from, little-below}

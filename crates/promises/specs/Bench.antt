@@ -11,8 +11,8 @@ use Rattle.numbers.specs.Nearest.{nearest16}
 use Rattle.dictionary.specs.Names.{slot-of}
 use Rattle.entries.specs.Judge.{held}
 use Rattle.roles.specs.Values.{at-start}
-use Rattle.sdo.specs.Answers.{answer}
-use Rattle.sdo.specs.Frames.{reply-to}
+use Rattle.frames.specs.Answers.{answer}
+use Rattle.frames.specs.Frames.{reply-to}
 use Rattle.terminals.specs.Input.{process}
 use Rattle.terminals.specs.declared.input.Settings.{Settings}
 
