@@ -13,8 +13,8 @@ use Rattle.entries.specs.Judge.{held}
 use Rattle.roles.specs.Values.{at-start}
 use Rattle.frames.specs.Answers.{answer}
 use Rattle.frames.specs.Frames.{reply-to}
-use Rattle.terminals.specs.Input.{process}
-use Rattle.terminals.specs.declared.input.Settings.{Settings}
+use Rattle.input.specs.Input.{process}
+use Rattle.input.specs.declared.Settings.{Settings}
 
 pub data Example : Type 0 where
   -- a frame, and the reply
