@@ -25,9 +25,9 @@ use input::Settings;
 use input::sense;
 use numbers::signed::pattern;
 use unit::laying::lay;
-use unit::words::switched_at;
-use unit::words::time_at;
-use unit::words::whole_at;
+use words::switched_at;
+use words::time_at;
+use words::whole_at;
 
 fn settings_of(unit: &Unit, k: usize) -> Settings
     requires { ⌜ k < 4 ⌝ }

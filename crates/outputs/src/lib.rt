@@ -32,9 +32,9 @@ use signals::reading::absent;
 use signals::reading::as_whole;
 use signals::reading::failed;
 use unit::sources::look_up;
-use unit::words::byte_at;
-use unit::words::time_at;
-use unit::words::whole_at;
+use words::byte_at;
+use words::time_at;
+use words::whole_at;
 
 fn settings_of(unit: &Unit, k: usize) -> Settings
     requires { ⌜ k < 4 ⌝ }

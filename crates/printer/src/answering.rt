@@ -15,8 +15,8 @@ use frames::types::Answer;
 use lines::reading::Verb;
 use lines::reading::read;
 use sdo::serving::serve;
-use unit::words::byte_at;
-use unit::words::whole_at;
+use words::byte_at;
+use words::whole_at;
 
 // The reply, or -.
 fn serve_frame(unit: &mut Unit, frame: &[u8], out: &mut [u8; 64]) -> usize

@@ -4,8 +4,8 @@ use mathlib.Core.Path.{_∙_, ap}
 use Rattle.numbers.proofs.ExactLaws.{back}
 use Rattle.numbers.specs.Signed.{signed16}
 use borrow.Author.Needs.{needs}
-use Rattle.unit.proofs.words.whole_at.Statement.{statement}
-use Rattle.unit.proofs.words.whole_at.Tie as tie
+use Rattle.words.proofs.whole_at.Statement.{statement}
+use Rattle.words.proofs.whole_at.Tie as tie
 
 word-at-requires : tie.Need-word-at-requires
 word-at-requires c κs = search needs

@@ -5,8 +5,8 @@ use mathlib.Core.Bool.{not}
 use mathlib.Core.Path.{ap}
 use lib.Dec.{eqb}
 use borrow.Author.Needs.{needs}
-use Rattle.unit.proofs.words.switched_at.Statement.{statement}
-use Rattle.unit.proofs.words.switched_at.Tie as tie
+use Rattle.words.proofs.switched_at.Statement.{statement}
+use Rattle.words.proofs.switched_at.Tie as tie
 
 word-at-requires : tie.Need-word-at-requires
 word-at-requires c κs = search needs
