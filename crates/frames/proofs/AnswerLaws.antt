@@ -1,7 +1,7 @@
 -- What the parts of an answer come to.
 -- Assumes nothing.
 use mathlib.Core.Path.{_≡_, refl, sym, ap, _∙_}
-use mathlib.Core.Bool.{Bool, true, false, _&&_, _||_, not, and-eq-true-iff}
+use mathlib.Core.Bool.{Bool, true, false, _&&_, and-eq-true-iff}
 use mathlib.Core.List.{List, [], _∷_}
 use Prim.Native.Nat.{ℕ, _<_, _≤_}
 use native.Mathlib.Omega.{arith}
@@ -17,12 +17,11 @@ use Rattle.dictionary.specs.declared.types.Found.{Found}
 use Rattle.dictionary.specs.declared.types.Found.the-variants as found
 use Rattle.naming.proofs.NameLaws.{found-below}
 use Rattle.entries.specs.Judge.{judged}
-use Rattle.entries.specs.declared.types.Verdict.{Verdict}
 use Rattle.frames.specs.Answers.{size-of, reading, stored, offered, refused, writing, obeyed, silent, answer}
 use Rattle.frames.specs.Frames.{command-of, index-in, sub-in, data-in}
 use Rattle.frames.specs.declared.types.Abort.the-variants as abort
 use Rattle.frames.specs.declared.types.Answer.{Answer}
-use Rattle.frames.specs.declared.types.Answer.the-variants.{Silent, Aborted, Value, Written}
+use Rattle.frames.specs.declared.types.Answer.the-variants.{Silent, Aborted}
 use Rattle.dictionary.proofs.types.Found as FoundType
 use Rattle.frames.specs.declared.types.Command.{Command}
 use Rattle.frames.specs.declared.types.Command.the-variants.{Read, Write, Other}
