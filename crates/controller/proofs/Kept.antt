@@ -14,7 +14,7 @@ use lib.Seq.{getD-set-other}
 use Rattle.signals.specs.declared.signal.Signal.{Signal}
 use Rattle.dictionary.specs.Names.{slot-of, writable, words}
 use Rattle.dictionary.specs.Unit.{signals-at, runs-at, flags-at}
-use Rattle.dictionary.proofs.NameLaws.{counted}
+use Rattle.naming.proofs.NameLaws.{counted}
 use Rattle.unit.specs.Each.{each}
 use Rattle.unit.specs.Entry.{publish}
 use Rattle.unit.specs.Held.{inputs, maths, tables, logics, place, lay, held, at-row}

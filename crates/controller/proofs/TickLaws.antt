@@ -16,7 +16,7 @@ use Rattle.signals.specs.declared.signal.Signal.the-variants.{Absent}
 use Rattle.signals.proofs.WordLaws as two-words
 use Rattle.dictionary.specs.Names.{slot-of, writable, words}
 use Rattle.dictionary.specs.Unit.{signals-at, runs-at, flags-at, unit-size}
-use Rattle.dictionary.proofs.NameLaws.{counted}
+use Rattle.naming.proofs.NameLaws.{counted}
 use Rattle.math.specs.Math.{combined}
 use Rattle.table.specs.Table.{lookedUp}
 use Rattle.unit.specs.Each.{each}

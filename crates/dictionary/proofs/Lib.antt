@@ -1,4 +1,3 @@
 pub mod Families
-pub mod NameLaws
 pub mod Sieve
 pub mod Tabulate

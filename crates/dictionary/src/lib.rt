@@ -1,5 +1,4 @@
-// The object dictionary: every name, and its slot.
-pub mod names;
-mod objects;
+// The object dictionary: the table of names, each object and where its words begin in a unit.
+pub mod objects;
 pub mod slots;
 pub mod types;

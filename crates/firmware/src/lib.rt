@@ -5,9 +5,9 @@ ghost use Rattle.roles.specs.Values.{at-start};
 ghost use Rattle.firmware.specs.Replied.{Replied};
 use controller::tick::tick;
 use dictionary::slots::Unit;
+use frames::types::Answer;
 use fresh::start::start;
 use sdo::serving::serve;
-use sdo::types::Answer;
 
 #[no_mangle]
 pub extern "C" fn valve_start(unit: &mut Unit)

@@ -9,9 +9,9 @@ use lib.ListN.{getD, set}
 use Rattle.numbers.specs.Choice.{first}
 use Rattle.numbers.specs.Signed.{pattern16}
 use Rattle.dictionary.specs.Unit.{runs-at, flags-at}
-use Rattle.terminals.specs.Input.{sensed}
-use Rattle.terminals.specs.declared.input.Memory.{Memory}
-use Rattle.terminals.specs.declared.input.Settings.{Settings}
+use Rattle.input.specs.Input.{sensed}
+use Rattle.input.specs.declared.Memory.{Memory}
+use Rattle.input.specs.declared.Settings.{Settings}
 use Rattle.unit.specs.Entry.{whole, switched, time, publish}
 use Rattle.unit.specs.Held.{inputs, lay}
 

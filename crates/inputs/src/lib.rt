@@ -20,14 +20,14 @@ use dictionary::slots::SAMPLE;
 use dictionary::slots::SPAN_END;
 use dictionary::slots::SPAN_START;
 use dictionary::slots::Unit;
+use input::Memory;
+use input::Settings;
+use input::sense;
 use numbers::signed::pattern;
-use terminals::input::Memory;
-use terminals::input::Settings;
-use terminals::input::sense;
 use unit::laying::lay;
-use unit::words::switched_at;
-use unit::words::time_at;
-use unit::words::whole_at;
+use words::switched_at;
+use words::time_at;
+use words::whole_at;
 
 fn settings_of(unit: &Unit, k: usize) -> Settings
     requires { ⌜ k < 4 ⌝ }

@@ -21,8 +21,8 @@ use signals::reading::as_real;
 use signals::reading::as_whole;
 use unit::laying::lay;
 use unit::sources::look_up;
-use unit::words::byte_at;
-use unit::words::switched_at;
+use words::byte_at;
+use words::switched_at;
 
 // A condition by its slot: source, number, source, number, comparison. Where the first argument is missing the second is not looked up.
 fn condition_at(unit: &Unit, at: usize) -> Verdict

@@ -28,9 +28,9 @@ use signals::signal::Signal;
 use signals::words::number_of;
 use unit::laying::lay;
 use unit::sources::look_up;
-use unit::words::byte_at;
-use unit::words::switched_at;
-use unit::words::whole_at;
+use words::byte_at;
+use words::switched_at;
+use words::whole_at;
 
 // Input i + 1, its signal as REAL32 from the start.
 fn operand(unit: &Unit, k: usize, i: usize) -> Operand

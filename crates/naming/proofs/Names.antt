@@ -10,7 +10,7 @@ use lib.Dec.{eqb, ltb}
 use borrow.Author.Tests.{ltb-true, eqb-true}
 use Rattle.dictionary.specs.Names.{Stretch, stretches, find, index-at, sub-at, words}
 use Rattle.dictionary.specs.declared.types.Found.the-variants.{NoIndex, At}
-use Rattle.dictionary.proofs.NameLaws.{every, picked}
+use Rattle.naming.proofs.NameLaws.{every, picked}
 use Rattle.dictionary.proofs.Tabulate.{tabulate, agree}
 
 -- ---- a test that each number below a bound passes

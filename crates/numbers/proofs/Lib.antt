@@ -1,8 +1,10 @@
+pub mod Choices
 pub mod Differences
 pub mod Doubling
 pub mod ExactLaws
 pub mod Examples
 pub mod LimitLaws
+pub mod LineCalls
 pub mod LineLaws
 pub mod OrderLaws
 pub mod Orders

@@ -6,8 +6,8 @@ use mathlib.Core.Path.{_≡_}
 use lib.IntN.{pos}
 use Rattle.numbers.specs.Choice.{first}
 use Rattle.signals.specs.Signal.{isError}
-use Rattle.terminals.specs.Output.{turnedOff}
-use Rattle.terminals.proofs.RuleLaws.{by-signals}
+use Rattle.output.specs.Output.{turnedOff}
+use Rattle.output.proofs.RuleLaws.{by-signals}
 use Rattle.unit.specs.Entry.{whole, byte}
 use Rattle.unit.specs.Sources.{sourced}
 use Rattle.outputs.specs.Outputs.{settings, commandOf}

@@ -4,8 +4,8 @@ use Prim.Native.Nat.{ℕ}
 use mathlib.Core.List.{List}
 use lib.IntN.{ℤ}
 use Rattle.numbers.specs.Signed.{pattern16}
-use Rattle.terminals.specs.Output.{command}
-use Rattle.terminals.specs.declared.output.Settings.{Settings}
+use Rattle.output.specs.Output.{command}
+use Rattle.output.specs.declared.Settings.{Settings}
 use Rattle.unit.specs.Entry.{whole, byte, time, publish}
 use Rattle.unit.specs.Sources.{sourced}
 

@@ -24,17 +24,17 @@ use dictionary::slots::RAMP_DOWN;
 use dictionary::slots::RAMP_UP;
 use dictionary::slots::Unit;
 use numbers::signed::pattern;
+use output::Settings;
+use output::ramp;
+use output::turned_off;
+use output::turned_on;
 use signals::reading::absent;
 use signals::reading::as_whole;
 use signals::reading::failed;
-use terminals::output::Settings;
-use terminals::output::ramp;
-use terminals::output::turned_off;
-use terminals::output::turned_on;
 use unit::sources::look_up;
-use unit::words::byte_at;
-use unit::words::time_at;
-use unit::words::whole_at;
+use words::byte_at;
+use words::time_at;
+use words::whole_at;
 
 fn settings_of(unit: &Unit, k: usize) -> Settings
     requires { ⌜ k < 4 ⌝ }

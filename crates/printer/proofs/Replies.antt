@@ -8,11 +8,11 @@ use lib.Dec.{lit<}
 use lib.IntN.{ℤ}
 use lib.ListN.{getD, replicate}
 use Rattle.numbers.specs.Signed.{signed16}
-use Rattle.sdo.specs.Frames.{reply-to, reply, name-in, bytes}
+use Rattle.frames.specs.Frames.{reply-to, reply, name-in, bytes}
+use Rattle.frames.specs.declared.types.Abort.{Abort}
+use Rattle.frames.specs.declared.types.Answer.{Answer}
+use Rattle.frames.specs.declared.types.Answer.the-variants.{Silent, Aborted, Value, Written}
 use Rattle.sdo.specs.Served.{filled}
-use Rattle.sdo.specs.declared.types.Abort.{Abort}
-use Rattle.sdo.specs.declared.types.Answer.{Answer}
-use Rattle.sdo.specs.declared.types.Answer.the-variants.{Silent, Aborted, Value, Written}
 use Rattle.dictionary.specs.Names.{slot-of}
 use Rattle.unit.proofs.Slots.{has, stretch, array, var}
 use Rattle.unit.specs.Entry.{whole, byte}

@@ -5,11 +5,11 @@ use Prim.Native.Nat.{ℕ}
 use mathlib.Core.List.{List, [], _∷_}
 use mathlib.Core.Path.{_≡_}
 use lib.IntN.{ℤ}
-use Rattle.sdo.specs.Answers as sdo
-use Rattle.sdo.specs.Frames.{reply-to}
+use Rattle.frames.specs.Answers as frames
+use Rattle.frames.specs.Frames.{reply-to}
+use Rattle.frames.specs.declared.types.Answer.{Answer}
+use Rattle.frames.specs.declared.types.Answer.the-variants.{Silent, Aborted, Value, Written}
 use Rattle.sdo.specs.Served.{after}
-use Rattle.sdo.specs.declared.types.Answer.{Answer}
-use Rattle.sdo.specs.declared.types.Answer.the-variants.{Silent, Aborted, Value, Written}
 use Rattle.unit.specs.Entry.{whole, byte}
 use Rattle.controller.specs.Tick.{ticked}
 use Rattle.answers.specs.Printing.{Printed, replyLine, silentLine, tickLine, unknownLine}
@@ -32,7 +32,7 @@ shown frame (Written slot word) = replyLine (reply-to frame (Written slot word))
 
 -- a frame's answer: the reply has room for eight bytes
 unfoldable pub decided : List ℕ → List ℕ → Answer
-decided unit frame = sdo.answer unit frame 8
+decided unit frame = frames.answer unit frame 8
 
 -- "S and 16 hex digits": the frame is served
 unfoldable pub served : List ℕ → List ℕ → Said

@@ -11,12 +11,12 @@ use controller::tick::tick;
 use dictionary::slots::COMMAND;
 use dictionary::slots::ERROR_REGISTER;
 use dictionary::slots::Unit;
+use frames::types::Answer;
 use lines::reading::Verb;
 use lines::reading::read;
 use sdo::serving::serve;
-use sdo::types::Answer;
-use unit::words::byte_at;
-use unit::words::whole_at;
+use words::byte_at;
+use words::whole_at;
 
 // The reply, or -.
 fn serve_frame(unit: &mut Unit, frame: &[u8], out: &mut [u8; 64]) -> usize

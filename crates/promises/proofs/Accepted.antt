@@ -15,15 +15,15 @@ use Rattle.dictionary.specs.declared.types.Found.the-variants as found
 use Rattle.entries.specs.Judge.{judged}
 use Rattle.entries.specs.declared.types.Verdict.{Verdict}
 use Rattle.entries.specs.declared.types.Verdict.the-variants as verdict
-use Rattle.sdo.specs.Answers.{size-of, reading, stored, offered, refused, writing, obeyed, silent, answer}
-use Rattle.sdo.specs.Frames.{command-of, index-in, sub-in, data-in}
-use Rattle.sdo.specs.declared.types.Abort.{Abort}
-use Rattle.sdo.specs.declared.types.Answer.{Answer}
-use Rattle.sdo.specs.declared.types.Answer.the-variants.{Silent, Aborted, Value, Written}
-use Rattle.sdo.specs.declared.types.Command.{Command}
-use Rattle.sdo.specs.declared.types.Command.the-variants.{Read, Write, Other}
-use Rattle.sdo.proofs.AnswerLaws.{heard}
-use Rattle.sdo.proofs.FrameLaws.{written-speaks}
+use Rattle.frames.specs.Answers.{size-of, reading, stored, offered, refused, writing, obeyed, silent, answer}
+use Rattle.frames.specs.Frames.{command-of, index-in, sub-in, data-in}
+use Rattle.frames.specs.declared.types.Abort.{Abort}
+use Rattle.frames.specs.declared.types.Answer.{Answer}
+use Rattle.frames.specs.declared.types.Answer.the-variants.{Silent, Aborted, Value, Written}
+use Rattle.frames.specs.declared.types.Command.{Command}
+use Rattle.frames.specs.declared.types.Command.the-variants.{Read, Write, Other}
+use Rattle.frames.proofs.AnswerLaws.{heard}
+use Rattle.sdo.proofs.ReplyLaws.{written-speaks}
 
 pub record Accepted (words frame : List ℕ) (slot word : ℕ) : Type 0 where
   pub size : ℕ

@@ -11,7 +11,7 @@ use Rattle.numbers.specs.Choice.{first}
 use Rattle.dictionary.specs.Rows.{width}
 use Rattle.dictionary.specs.declared.types.Kind.{Kind}
 use Rattle.dictionary.specs.declared.types.Kind.the-variants.{Unsigned8, Integer16, Unsigned16, Real32}
-use Rattle.sdo.specs.Frames.{little, bytes, cut}
+use Rattle.frames.specs.Frames.{little, bytes, cut}
 use Rattle.promises.specs.Serving.{Bytes}
 
 -- the bytes from one place on, and so many of them, are bytes

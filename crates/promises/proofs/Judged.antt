@@ -13,7 +13,7 @@ use Rattle.entries.specs.Judge.{in-range, past-upper, past-lower, in-order, bef
 use Rattle.roles.specs.Values.{range-of}
 use Rattle.entries.specs.declared.types.Verdict.{Verdict}
 use Rattle.entries.specs.declared.types.Verdict.the-variants.{Good, NotFinite, Above, Below, ChainUp, ChainDown}
-use Rattle.promises.proofs.Neighbours.{another, is-another, upper-another, lower-another, upper-same, lower-same}
+use Rattle.configuration.proofs.Neighbours.{another, is-another, upper-another, lower-another, upper-same, lower-same}
 
 both-good : (range chain : Verdict) → before range chain ≡ Good → (range ≡ Good) × (chain ≡ Good)
 unfolding before

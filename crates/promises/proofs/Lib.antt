@@ -1,11 +1,8 @@
 pub mod Accepted
 pub mod Bench
 pub mod ByteLaws
-pub mod Configuration
 pub mod Judged
-pub mod Neighbours
 pub mod ReadBack
 pub mod Running
 pub mod Serving
-pub mod Start
 pub mod Writing

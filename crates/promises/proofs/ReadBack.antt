@@ -11,11 +11,11 @@ use Rattle.dictionary.specs.Names.{find}
 use Rattle.dictionary.specs.declared.types.Found.the-variants.{At}
 use Rattle.dictionary.specs.Unit.{unit-size}
 use Rattle.roles.specs.Values.{range-of}
-use Rattle.sdo.specs.Answers.{size-of, reading, obeyed, answer}
-use Rattle.sdo.specs.Frames.{bytes, index-in, sub-in, name-in, data-in, command-of, read-command, cut, reply, reply-to}
-use Rattle.sdo.specs.declared.types.Answer.the-variants.{Value}
-use Rattle.sdo.specs.declared.types.Command.the-variants.{Read}
-use Rattle.sdo.proofs.AnswerLaws.{write-sizes, spoken}
+use Rattle.frames.specs.Answers.{size-of, reading, obeyed, answer}
+use Rattle.frames.specs.Frames.{bytes, index-in, sub-in, name-in, data-in, command-of, read-command, cut, reply, reply-to}
+use Rattle.frames.specs.declared.types.Answer.the-variants.{Value}
+use Rattle.frames.specs.declared.types.Command.the-variants.{Read}
+use Rattle.frames.proofs.AnswerLaws.{write-sizes, spoken}
 use Rattle.promises.specs.Serving.{Bytes}
 use Rattle.promises.proofs.Accepted.{Accepted}
 use Rattle.promises.proofs.ByteLaws.{bytes-from, bytes-to, given-back, uncut}

@@ -15,10 +15,13 @@ use Rattle.roles.specs.Chains.{upper-of}
 use Rattle.entries.specs.Judge.{held, past-upper, in-range}
 use Rattle.entries.specs.Valid.{Valid}
 use Rattle.roles.specs.Values.{range-of, starts, at-start}
-use Rattle.sdo.specs.Answers.{answer}
+use Rattle.configuration.proofs.Configuration.{can-be-written}
+use Rattle.configuration.proofs.Neighbours.{upper-another, is-another, another, upper-same}
+use Rattle.configuration.proofs.Start.{valid-at-start}
+use Rattle.frames.specs.Answers.{answer}
+use Rattle.frames.specs.declared.types.Answer.{Answer}
+use Rattle.frames.specs.declared.types.Answer.the-variants.{Silent, Aborted, Value, Written}
 use Rattle.sdo.specs.Served.{Served, after}
-use Rattle.sdo.specs.declared.types.Answer.{Answer}
-use Rattle.sdo.specs.declared.types.Answer.the-variants.{Silent, Aborted, Value, Written}
 use Rattle.unit.specs.Entry.{entry}
 use Rattle.inputs.specs.Inputs.{memory}
 use Rattle.controller.specs.Tick.{anyFlagged, ticked}
@@ -26,10 +29,7 @@ use Rattle.controller.proofs.TickLaws as Tick
 use Rattle.promises.specs.Running.{Event, frame, tick, happens, run, Did, Ran, Only-the-fold, Made-of-bytes, Sound, Always-sound}
 use Rattle.promises.specs.Serving.{Bytes}
 use Rattle.promises.proofs.Accepted.{accepted}
-use Rattle.promises.proofs.Configuration.{can-be-written}
-use Rattle.promises.proofs.Neighbours.{upper-another, is-another, another, upper-same}
 use Rattle.promises.proofs.Serving.{stays-valid}
-use Rattle.promises.proofs.Start.{valid-at-start}
 
 -- ---- one event is what the definitions make of it
 

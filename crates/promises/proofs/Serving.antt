@@ -7,17 +7,17 @@ use native.Mathlib.Omega.{arith}
 use lib.ListN.{length, getD, set, take, drop, replicate}
 use Rattle.dictionary.specs.Unit.{unit-size}
 use Rattle.entries.specs.Valid.{Valid}
-use Rattle.sdo.specs.Answers.{offered, writing, obeyed, answer}
-use Rattle.sdo.specs.Frames.{name-in, data-in, command-of, read-command, reply-to}
+use Rattle.configuration.proofs.Start.{valid-at-start}
+use Rattle.frames.specs.Answers.{offered, writing, obeyed, answer}
+use Rattle.frames.specs.Frames.{name-in, data-in, command-of, read-command, reply-to}
+use Rattle.frames.specs.declared.types.Answer.{Answer}
+use Rattle.frames.specs.declared.types.Answer.the-variants.{Silent, Aborted, Value, Written}
+use Rattle.frames.specs.declared.types.Command.the-variants.{Write}
 use Rattle.sdo.specs.Served.{after, filled}
-use Rattle.sdo.specs.declared.types.Answer.{Answer}
-use Rattle.sdo.specs.declared.types.Answer.the-variants.{Silent, Aborted, Value, Written}
-use Rattle.sdo.specs.declared.types.Command.the-variants.{Write}
 use Rattle.promises.specs.Serving.{Bytes, Untouched, Determined, Reads-back, Stays-valid, Decided-by-configuration}
 use Rattle.promises.proofs.Accepted.{accepted}
 use Rattle.promises.proofs.Judged.{judged-same}
 use Rattle.promises.proofs.ReadBack.{reply-back}
-use Rattle.promises.proofs.Start.{valid-at-start}
 use Rattle.promises.proofs.Writing.{still-valid}
 
 pub untouched : Untouched

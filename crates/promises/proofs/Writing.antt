@@ -22,14 +22,14 @@ use Rattle.roles.specs.Values.{range-of}
 use Rattle.roles.specs.declared.types.Link.{Link}
 use Rattle.roles.specs.declared.types.Link.the-variants.{Free, Loose, Strict}
 use Rattle.entries.specs.declared.types.Verdict.the-variants.{Good}
-use Rattle.sdo.specs.Answers.{size-of}
-use Rattle.sdo.specs.Frames.{data-in}
+use Rattle.configuration.proofs.Configuration.{in-unit}
+use Rattle.configuration.proofs.Neighbours.{near, another, is-another, upper-another, back-down, turned, both-ways, upper-same}
+use Rattle.frames.specs.Answers.{size-of}
+use Rattle.frames.specs.Frames.{data-in}
 use Rattle.promises.specs.Serving.{Bytes}
 use Rattle.promises.proofs.Accepted.{Accepted}
-use Rattle.promises.proofs.Configuration.{in-unit}
 use Rattle.promises.proofs.ByteLaws.{bytes-from, little-below}
 use Rattle.promises.proofs.Judged.{fitting}
-use Rattle.promises.proofs.Neighbours.{near, another, is-another, upper-another, back-down, turned, both-ways, upper-same}
 
 module _ (words frame : List ℕ) (slot word : ℕ) (a : Accepted words frame slot word) where
   -- a word has no more bytes than its type

@@ -11,10 +11,10 @@ use Rattle.numbers.specs.Nearest.{nearest16}
 use Rattle.dictionary.specs.Names.{slot-of}
 use Rattle.entries.specs.Judge.{held}
 use Rattle.roles.specs.Values.{at-start}
-use Rattle.sdo.specs.Answers.{answer}
-use Rattle.sdo.specs.Frames.{reply-to}
-use Rattle.terminals.specs.Input.{process}
-use Rattle.terminals.specs.declared.input.Settings.{Settings}
+use Rattle.frames.specs.Answers.{answer}
+use Rattle.frames.specs.Frames.{reply-to}
+use Rattle.input.specs.Input.{process}
+use Rattle.input.specs.declared.Settings.{Settings}
 
 pub data Example : Type 0 where
   -- a frame, and the reply

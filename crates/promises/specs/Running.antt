@@ -9,9 +9,9 @@ use Rattle.numbers.specs.Choice.{first}
 use Rattle.dictionary.specs.Unit.{unit-size}
 use Rattle.entries.specs.Valid.{Valid}
 use Rattle.roles.specs.Values.{at-start}
-use Rattle.sdo.specs.Answers.{answer}
+use Rattle.frames.specs.Answers.{answer}
+use Rattle.frames.specs.declared.types.Answer.{Answer}
 use Rattle.sdo.specs.Served.{Served, after}
-use Rattle.sdo.specs.declared.types.Answer.{Answer}
 use Rattle.unit.specs.Entry.{entry}
 use Rattle.controller.specs.Tick.{anyFlagged, ticked}
 use Rattle.promises.specs.Serving.{Bytes}

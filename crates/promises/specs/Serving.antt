@@ -9,13 +9,13 @@ use Rattle.dictionary.specs.Unit.{unit-size}
 use Rattle.dictionary.specs.declared.types.Found.the-variants.{At}
 use Rattle.entries.specs.Valid.{Valid}
 use Rattle.roles.specs.Values.{at-start}
-use Rattle.sdo.specs.Answers.{answer}
-use Rattle.sdo.specs.Frames.{index-in, sub-in, name-in, command-of, read-command, reply-to}
+use Rattle.frames.specs.Answers.{answer}
+use Rattle.frames.specs.Frames.{index-in, sub-in, name-in, command-of, read-command, reply-to}
+use Rattle.frames.specs.declared.types.Abort.{Abort}
+use Rattle.frames.specs.declared.types.Answer.{Answer}
+use Rattle.frames.specs.declared.types.Answer.the-variants.{Silent, Aborted, Written}
+use Rattle.frames.specs.declared.types.Command.the-variants.{Write}
 use Rattle.sdo.specs.Served.{Served, after}
-use Rattle.sdo.specs.declared.types.Abort.{Abort}
-use Rattle.sdo.specs.declared.types.Answer.{Answer}
-use Rattle.sdo.specs.declared.types.Answer.the-variants.{Silent, Aborted, Written}
-use Rattle.sdo.specs.declared.types.Command.the-variants.{Write}
 
 -- a frame is made of bytes
 abbrev pub Bytes : List ℕ → Type 0

@@ -1,2 +1,1 @@
-pub mod AnswerLaws
-pub mod FrameLaws
+pub mod ReplyLaws

@@ -1,5 +1,2 @@
-// Expedited SDO over the dictionary's words: one frame in, one answer out.
-mod data;
-pub mod deciding;
+// Expedited SDO over the unit: one frame in, its word written and its reply out.
 pub mod serving;
-pub mod types;

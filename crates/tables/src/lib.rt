@@ -18,7 +18,7 @@ use signals::reading::as_whole;
 use signals::signal::Signal;
 use unit::laying::lay;
 use unit::sources::look_up;
-use unit::words::byte_at;
+use words::byte_at;
 
 // Eleven words from each of three slots.
 fn curve(unit: &[u32], signal: Signal, response: usize, x: usize, y: usize) -> Signal

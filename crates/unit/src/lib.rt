@@ -1,5 +1,4 @@
-// The unit as the blocks of a tick use it: its words by their types, the signals that it keeps, and what a source names.
+// The unit as the blocks of a tick use it: the signals that it keeps, and what a source names.
 mod held;
 pub mod laying;
 pub mod sources;
-pub mod words;

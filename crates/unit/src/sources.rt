@@ -5,13 +5,13 @@ ghost use Rattle.unit.specs.Entry as entry;
 ghost use Rattle.unit.specs.Extent.{extent};
 ghost use Rattle.unit.specs.Sources.{sourced};
 use crate::held::held;
-use crate::words::whole_at;
 use dictionary::slots::CONSTANT;
 use dictionary::slots::EC_VALUE;
 use dictionary::slots::FIXED;
 use dictionary::slots::Unit;
 use signals::signal::Signal;
 use signals::words::real_of;
+use words::whole_at;
 
 // What a source has, as one number that is looked up once: where its signals begin in the row of blocks, times 16, and how many it has.
 fn extent(source: u8) -> usize

@@ -9,7 +9,7 @@ use lib.ListN.{getD}
 use mir.Facts.{toZ-ofZ}
 use mir.Syntax.{w16}
 use mir.Val.{SFits}
-use Rattle.terminals.specs.Input.{sensed}
+use Rattle.input.specs.Input.{sensed}
 use Rattle.unit.proofs.Slots.{has, array}
 use Rattle.unit.proofs.Each.{more, done}
 use Rattle.unit.specs.Each.{each}

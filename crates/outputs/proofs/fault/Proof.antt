@@ -5,7 +5,7 @@ use mathlib.Core.Path.{refl}
 use native.Mathlib.Omega.{arith}
 use borrow.Author.Tests.{ne-eqb}
 use Rattle.numbers.specs.Choice.{first}
-use Rattle.terminals.specs.Output.{faultOf}
+use Rattle.output.specs.Output.{faultOf}
 use Rattle.unit.proofs.Slots.{has}
 use Rattle.outputs.specs.Outputs.{settings}
 use Rattle.outputs.specs.Rules.{faultFor}

@@ -1,9 +1,8 @@
--- `sdo::serving::keep` meets its contract: the stores come to the list that the definition gives (`FrameLaws`).
+-- `sdo::serving::keep` meets its contract: the stores come to the list that the definition gives (`ReplyLaws`).
 -- Assumes nothing.
 use mathlib.Core.Path.{sym}
 use borrow.Author.Needs.{needs}
-use Rattle.sdo.proofs.AnswerLaws.{unwritten}
-use Rattle.sdo.proofs.FrameLaws.{set-past}
+use Rattle.sdo.proofs.ReplyLaws.{unwritten, set-past}
 use Rattle.sdo.specs.Served.{after}
 use Rattle.sdo.proofs.serving.keep.Statement.{statement}
 use Rattle.sdo.proofs.serving.keep.Tie as tie

@@ -1,12 +1,12 @@
--- `sdo::serving::respond` meets its contract: the stores come to the list that the definition gives (`FrameLaws`).
+-- `sdo::serving::respond` meets its contract: the stores come to the list that the definition gives (`ReplyLaws`).
 -- Assumes nothing.
 use Prim.Native.Nat.{ℕ, _/_, _%_}
 use native.Mathlib.Omega.{arith}
 use lib.ListN.{getD}
 use lib.ListN.{length-set}
 use borrow.Author.Needs.{needs}
-use Rattle.sdo.proofs.FrameLaws.{eight-stores}
-use Rattle.sdo.specs.Frames.{reply, name-in, bytes}
+use Rattle.sdo.proofs.ReplyLaws.{eight-stores}
+use Rattle.frames.specs.Frames.{reply, name-in, bytes}
 use Rattle.sdo.proofs.serving.respond.Statement.{statement}
 use Rattle.sdo.proofs.serving.respond.Tie as tie
 

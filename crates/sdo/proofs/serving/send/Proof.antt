@@ -1,9 +1,9 @@
--- `sdo::serving::send` meets its contract: the stores come to the list that the definition gives (`FrameLaws`).
+-- `sdo::serving::send` meets its contract: the stores come to the list that the definition gives (`ReplyLaws`).
 -- Assumes nothing.
 use mathlib.Core.List.{[]}
 use mathlib.Core.Path.{_∙_}
 use borrow.Author.Needs.{needs}
-use Rattle.sdo.proofs.FrameLaws.{sent-abort, sent-value, sent-written, sent-nothing, abort-speaks, value-speaks, written-speaks}
+use Rattle.sdo.proofs.ReplyLaws.{sent-abort, sent-value, sent-written, sent-nothing, abort-speaks, value-speaks, written-speaks}
 use Rattle.sdo.proofs.serving.send.Statement.{statement}
 use Rattle.sdo.proofs.serving.send.Tie as tie
 

@@ -1,7 +1,7 @@
 -- The two words stand at the row's place.
 -- Assumes nothing.
-use Rattle.dictionary.proofs.NameLaws.{counted}
 use Rattle.dictionary.specs.Unit.{signals-at}
+use Rattle.naming.proofs.NameLaws.{counted}
 use Rattle.unit.specs.Held.{place, at-row}
 use borrow.Author.Needs.{needs}
 use Rattle.unit.proofs.held.held.Statement.{statement}

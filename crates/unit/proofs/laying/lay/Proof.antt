@@ -2,8 +2,8 @@
 -- Assumes nothing.
 use borrow.Author.Tests.{lt-ltb, le-ltb}
 use Rattle.numbers.specs.Choice.{first}
-use Rattle.dictionary.proofs.NameLaws.{counted}
 use Rattle.dictionary.specs.Unit.{signals-at}
+use Rattle.naming.proofs.NameLaws.{counted}
 use Rattle.unit.specs.Held.{place, laid}
 use borrow.Author.Needs.{needs}
 use Rattle.unit.proofs.laying.lay.Statement.{statement}

@@ -1,0 +1,3 @@
+pub mod Configuration
+pub mod Neighbours
+pub mod Start

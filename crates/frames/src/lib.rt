@@ -1,0 +1,4 @@
+// Reading a frame and deciding its answer, over the unit: nothing is written.
+mod data;
+pub mod deciding;
+pub mod types;
