@@ -1,5 +1,7 @@
 // The configuration's entries as an image lists them, ascending, in rows: an index with the first and the last of its subs that hold
 // values of one role. The digits of a row are the index, the first sub, the last sub and the role.
+ghost use mathlib.Core.Path.{_≡_};
+ghost use Rattle.records.specs.Rows.{role-at};
 use roles::telling::*;
 
 // Source, number, source, number, comparison, by the sub: no role of a slot has this number.
@@ -142,3 +144,20 @@ pub const ROWS: [u32; 135] = [
     0x7323_1400 + CURRENT as u32,
     0x7341_1400 + CURRENT as u32,
 ];
+
+// The role of what a row holds at a sub.
+pub fn role_at(row: u32, sub: u8) -> u8
+    ensures { λ r. ⌜ r ≡ role-at row sub ⌝ }
+{
+    let role = (row % 0x100) as u8;
+    if role < CONDITION {
+        return role;
+    }
+    if sub == 5 {
+        return COMPARISON;
+    }
+    if sub % 2 == 1 {
+        return SOURCE;
+    }
+    NUMBER
+}

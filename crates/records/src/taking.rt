@@ -6,33 +6,13 @@ ghost use Rattle.dictionary.specs.Rows.{width};
 ghost use Rattle.roles.specs.Roles.{ranged};
 ghost use Rattle.records.specs.Rows.{role-at, entry-at, row-of, first-sub, last-sub};
 ghost use Rattle.records.specs.Walk.{index-in, size-in, data-in, valued, decoded, walked};
-use super::rows::CONDITION;
+use super::rows::role_at;
 use super::types::Refusal;
 use super::types::Walked;
 use entries::judging::fits;
 use entries::ranges::width_of;
 use little::four;
 use little::two;
-use roles::telling::COMPARISON;
-use roles::telling::NUMBER;
-use roles::telling::SOURCE;
-
-// The role of what a row holds at a sub.
-fn role_at(row: u32, sub: u8) -> u8
-    ensures { λ r. ⌜ r ≡ role-at row sub ⌝ }
-{
-    let role = (row % 0x100) as u8;
-    if role < CONDITION {
-        return role;
-    }
-    if sub == 5 {
-        return COMPARISON;
-    }
-    if sub % 2 == 1 {
-        return SOURCE;
-    }
-    NUMBER
-}
 
 // The parts of a record: its head is of seven bytes, its data of one of three sizes.
 fn index_in(rest: &[u8]) -> u16

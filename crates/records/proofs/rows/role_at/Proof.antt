@@ -1,11 +1,11 @@
--- `records::taking::role_at` meets its contract, test by test.
+-- `records::rows::role_at` meets its contract, test by test.
 -- Assumes nothing.
 use Rattle.numbers.specs.Choice.{first}
 use Rattle.numbers.proofs.Tests.{tests}
 use Rattle.records.specs.Rows.{role-at}
 use borrow.Author.Needs.{needs}
-use Rattle.records.proofs.taking.role_at.Statement.{statement}
-use Rattle.records.proofs.taking.role_at.Tie as tie
+use Rattle.records.proofs.rows.role_at.Statement.{statement}
+use Rattle.records.proofs.rows.role_at.Tie as tie
 
 cast-role : tie.Need-cast-role
 cast-role c = search needs
