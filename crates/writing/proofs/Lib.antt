@@ -1,0 +1,3 @@
+pub mod ImageSize
+pub mod PlacingLaws
+pub mod WrittenLaws
