@@ -100,6 +100,9 @@ RANGE = "    return entry.low <= value <= entry.high\n"
 LINK = "            yield place, gap, PLACES[upper.index, upper.sub]\n"
 LINKED = "        if entry.above is not None:\n"
 
+ABOVE = "value_of(ENTRIES[lower], configuration[lower]) + gap >"
+WRAPPED_ABOVE = "(value_of(ENTRIES[lower], configuration[lower]) + gap + 0x8000) % 0x10000 - 0x8000 >"
+
 CUT_FIELD_BY_FIELD = """    if 3 <= len(image) - at < HEAD.size and image[at : at + 3] != HEAD.pack(entry.index, entry.sub, 0)[:3]:
         return 3, b""
 """
@@ -164,7 +167,7 @@ WRONG_READERS = (
     ("3065h:11 not looked at", cases.broken_images, LINKED, LINKED.replace("None:", "None and (entry.index, entry.sub) != (0x3065, 10):")),
     ("7148h < 7120h", cases.good_images, LINK, LINK.replace("gap,", "gap + (entry.index == 0x7148),")),
     ("3065h:10 < :11", cases.good_images, LINK, LINK.replace("gap,", "gap + ((entry.index, entry.sub) == (0x3065, 10)),")),
-    ("lower + 1 wraps round", cases.broken_images, "configuration[lower]) + gap >", "configuration[lower]) + gap & 0x7FFF) - (0x8000 & value_of(ENTRIES[lower], configuration[lower]) + gap) >", "        if value_of(ENTRIES[lower],", "        if (value_of(ENTRIES[lower],"),
+    ("lower + 1 wraps round", cases.broken_images, ABOVE, WRAPPED_ABOVE),
 )
 
 
