@@ -9,6 +9,7 @@ request is written to a file, both answers are shown, and the exit status is 1.
 import argparse
 import pathlib
 import random
+import re
 import struct
 import subprocess
 import sys
@@ -23,7 +24,9 @@ HERE = pathlib.Path(__file__).resolve().parent
 sys.path.insert(0, str(HERE.parent / "bench"))
 import sides  # noqa: E402
 
-VALVE_UNIT = 692  # words, as valve.h says; the first 611 are the configuration
+# The words of a unit, as the header says; the first 611 are the configuration.
+HEADER = sides.ROOT / "crates" / "firmware" / "valve.h"
+VALVE_UNIT = int(re.search(r"#define VALVE_UNIT (\d+)", HEADER.read_text())[1])
 TOUCHED = {1: "the image, by valve_check", 2: "the image, by valve_load", 4: "the unit", 8: "the buffer"}
 
 
