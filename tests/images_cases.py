@@ -135,7 +135,7 @@ def changed_images(rng):
 
 
 def longer_images(rng):
-    """Bytes left over: a few of them, a record more, a whole image more."""
+    """Bytes left over: one to many, a record more, an image's beginning."""
     image = image_of(some_configuration(rng))
     for tail in [bytes(n) for n in range(1, 20)] + [b"\xFF", image[:4], image[-9:], image[4:15], bytes(2000)]:
         yield image + tail, 7
