@@ -2,6 +2,7 @@
    alone, so that nothing but events adds to the instructions of a run. An event is 16 bytes: 'S' or 'T', seven bytes of nothing,
    then a frame or four samples. An answer is 16 bytes: the reply's length, seven bytes of nothing, the reply. */
 #include HEADER
+#include "bare.h"
 
 #define JOINED(a, b) a##_##b
 #define CALL(side, name) JOINED(side, name)
@@ -24,19 +25,9 @@ static struct event events[EVENTS];
 static struct answer answers[EVENTS];
 static uint64_t unit[512]; /* room for either side's */
 
-static long call(long number, long a, const void *b, long c)
+void run(void)
 {
-    long result;
-    __asm__ volatile("syscall" : "=a"(result) : "a"(number), "D"(a), "S"(b), "d"(c) : "rcx", "r11", "memory");
-    return result;
-}
-
-/* Started by the kernel with an aligned stack, as a call would not have it. */
-__asm__(".globl _start\n_start: call drive\n");
-
-void drive(void)
-{
-    long count = call(0, 0, events, sizeof events) / (long)sizeof *events;
+    long count = call(SYS_READ, 0, events, sizeof events) / (long)sizeof *events;
     CALL(SIDE, start)((void *)unit);
     for (long i = 0; i < count; i++) {
         if (events[i].kind == 'S')
@@ -44,21 +35,6 @@ void drive(void)
         else
             CALL(SIDE, tick)((void *)unit, events[i].samples);
     }
-    call(1, 1, answers, count * (long)sizeof *answers);
-    call(60, 0, 0, 0);
-}
-
-/* What clang calls for large copies. */
-void *memcpy(void *to, const void *from, size_t n)
-{
-    void *at = to;
-    __asm__ volatile("rep movsb" : "+D"(at), "+S"(from), "+c"(n) : : "memory");
-    return to;
-}
-
-void *memset(void *to, int byte, size_t n)
-{
-    void *at = to;
-    __asm__ volatile("rep stosb" : "+D"(at), "+c"(n) : "a"(byte) : "memory");
-    return to;
+    call(SYS_WRITE, 1, answers, count * (long)sizeof *answers);
+    call(SYS_EXIT, 0, 0, 0);
 }

@@ -29,24 +29,31 @@ EMULATOR = [] if platform.machine() == "x86_64" else [str(TOOLS / "qemu-x86_64")
 C = "--target=x86_64-linux-gnu -std=c11 -O2 -ffp-contract=off -Wall -Wextra -Werror -nostdinc -fno-stack-protector".split()
 
 
-def _compile(source, out, *words):
+def compiled(source, out, *words):
+    OUT.mkdir(parents=True, exist_ok=True)
     places = ["-I%s" % place for place in (HERE, HERE / "include", ROOT / "crates" / "firmware")]
-    subprocess.run([TOOLS / "clang", *C, *places, *words, "-c", HERE / source, "-o", OUT / out], check=True)
+    subprocess.run([TOOLS / "clang", *C, *places, *words, "-c", source, "-o", OUT / out], check=True)
+    return OUT / out
+
+
+def linked(out, parts):
+    subprocess.run([TOOLS / "ld.lld", "-o", OUT / out, *parts], check=True)
+    return str(OUT / out)
+
+
+def library():
+    subprocess.run(["rt", "staticlib", "firmware"], check=True, cwd=ROOT)
+    return LIBRARY
 
 
 def build(side):
     """The side's program."""
-    OUT.mkdir(parents=True, exist_ok=True)
-    _compile("drive.c", side + ".drive.o", "-DSIDE=" + side, '-DHEADER="%s.h"' % side)
-    parts = [OUT / (side + ".drive.o")]
+    parts = [compiled(HERE / "drive.c", side + ".drive.o", "-DSIDE=" + side, '-DHEADER="%s.h"' % side)]
     if side == "plain":
-        _compile("plain.c", "plain.o")
-        parts.append(OUT / "plain.o")
+        parts.append(compiled(HERE / "plain.c", "plain.o"))
     if side == "valve":
-        subprocess.run(["rt", "staticlib", "firmware"], check=True, cwd=ROOT)
-        parts.append(LIBRARY)
-    subprocess.run([TOOLS / "ld.lld", "-o", OUT / side, *parts], check=True)
-    return str(OUT / side)
+        parts.append(library())
+    return linked(side, parts)
 
 
 def _event(event):

@@ -1,0 +1,36 @@
+/* What a C program needs that stands on the kernel's calls alone: its start, which calls run(), and the two functions that clang
+   calls for large copies. To be included by one file of a program. */
+#ifndef BARE_H
+#define BARE_H
+
+#include <stddef.h>
+
+void run(void);
+
+/* Started by the kernel with an aligned stack, as a call would not have it. */
+__asm__(".globl _start\n_start: call run\n");
+
+enum { SYS_READ = 0, SYS_WRITE = 1, SYS_MPROTECT = 10, SYS_EXIT = 60 };
+
+static long call(long number, long a, const void *b, long c)
+{
+    long result;
+    __asm__ volatile("syscall" : "=a"(result) : "a"(number), "D"(a), "S"(b), "d"(c) : "rcx", "r11", "memory");
+    return result;
+}
+
+void *memcpy(void *to, const void *from, size_t n)
+{
+    void *at = to;
+    __asm__ volatile("rep movsb" : "+D"(at), "+S"(from), "+c"(n) : : "memory");
+    return to;
+}
+
+void *memset(void *to, int byte, size_t n)
+{
+    void *at = to;
+    __asm__ volatile("rep stosb" : "+D"(at), "+c"(n) : "a"(byte) : "memory");
+    return to;
+}
+
+#endif
