@@ -5,7 +5,8 @@ use mathlib.Core.List.{List}
 use mathlib.Core.Path.{_≡_, refl, sym, ap, _∙_}
 use lib.IntN.{pos}
 use lib.ListN.{length}
-use Rattle.frames.specs.Frames.{reply-to, reply, name-in, bytes}
+use Rattle.little.specs.Little.{bytes}
+use Rattle.frames.specs.Frames.{reply-to, reply, name-in}
 use Rattle.frames.specs.declared.types.Abort.{Abort}
 use Rattle.frames.specs.declared.types.Answer.{Answer}
 use Rattle.frames.specs.declared.types.Answer.the-variants.{Silent, Aborted, Value, Written}

@@ -1,9 +1,10 @@
 -- Frames: "Eight bytes: command, index low byte first, sub, four data bytes low byte first."
 -- Assumes nothing.
-use Prim.Native.Nat.{ℕ, zero, suc, _+_, _*_, _/_, _%_}
+use Prim.Native.Nat.{ℕ, _%_}
 use mathlib.Core.List.{List, [], _∷_, _++_}
 use lib.Dec.{eqb}
 use lib.ListN.{getD, take, drop}
+use Rattle.little.specs.Little.{little, bytes}
 use Rattle.numbers.specs.Choice.{first}
 use Rattle.frames.specs.declared.types.Abort.{Abort}
 use Rattle.frames.specs.declared.types.Abort.the-variants as abort
@@ -12,18 +13,9 @@ use Rattle.frames.specs.declared.types.Answer.the-variants.{Silent, Abor
 use Rattle.frames.specs.declared.types.Command.{Command}
 use Rattle.frames.specs.declared.types.Command.the-variants.{Read, Write, Other}
 
--- numbers and their bytes, low byte first
-unfoldable pub little : List ℕ → ℕ
-little [] = 0
-little (b ∷ bs) = b + 256 * little bs
-
-unfoldable pub bytes : ℕ → ℕ → List ℕ
-bytes zero n = []
-bytes (suc k) n = n % 256 ∷ bytes k (n / 256)
-
 -- the parts of a frame
 unfoldable pub index-in : List ℕ → ℕ
-index-in frame = getD frame 1 0 + 256 * getD frame 2 0
+index-in frame = little (getD frame 1 0 ∷ getD frame 2 0 ∷ [])
 
 unfoldable pub sub-in : List ℕ → ℕ
 sub-in frame = getD frame 3 0

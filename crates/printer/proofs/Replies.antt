@@ -8,7 +8,8 @@ use lib.Dec.{lit<}
 use lib.IntN.{ℤ}
 use lib.ListN.{getD, replicate}
 use Rattle.numbers.specs.Signed.{signed16}
-use Rattle.frames.specs.Frames.{reply-to, reply, name-in, bytes}
+use Rattle.little.specs.Little.{bytes}
+use Rattle.frames.specs.Frames.{reply-to, reply, name-in}
 use Rattle.frames.specs.declared.types.Abort.{Abort}
 use Rattle.frames.specs.declared.types.Answer.{Answer}
 use Rattle.frames.specs.declared.types.Answer.the-variants.{Silent, Aborted, Value, Written}

@@ -14,7 +14,8 @@ use Rattle.roles.specs.Chains.{chains, upper-in, lower-in, upper-of, lower-of}
 use Rattle.entries.specs.Judge.{number-of, finite, within, in-range, held, past-upper, past-lower, in-order, before, judged}
 use Rattle.roles.specs.Values.{range-of, starts, at-start}
 use Rattle.frames.specs.Answers.{size-of, reading, stored, offered, refused, writing, obeyed, silent, answer}
-use Rattle.frames.specs.Frames.{little, bytes, index-in, sub-in, name-in, data-in, command-of, code, reply, reply-to}
+use Rattle.little.specs.Little.{little, bytes}
+use Rattle.frames.specs.Frames.{index-in, sub-in, name-in, data-in, command-of, code, reply, reply-to}
 use Rattle.input.specs.Input.{process}
 use Rattle.promises.specs.Bench.{fresh-input, On-the-bench}
 

@@ -1,7 +1,7 @@
 -- A read after an accepted write: the reply has the bytes that the frame had.
 -- Assumes nothing.
 use mathlib.Core.Path.{_≡_, refl, sym, ap, _∙_, subst}
-use mathlib.Core.List.{List, _∷_, _++_}
+use mathlib.Core.List.{List, [], _∷_, _++_}
 use Prim.Native.Nat.{ℕ, _+_, _-_, _*_, _≤_}
 use native.Mathlib.Omega.{arith}
 use lib.ListN.{length, getD, set, take, drop, replicate, length-drop}
@@ -12,13 +12,14 @@ use Rattle.dictionary.specs.declared.types.Found.the-variants.{At}
 use Rattle.dictionary.specs.Unit.{unit-size}
 use Rattle.roles.specs.Values.{range-of}
 use Rattle.frames.specs.Answers.{size-of, reading, obeyed, answer}
-use Rattle.frames.specs.Frames.{bytes, index-in, sub-in, name-in, data-in, command-of, read-command, cut, reply, reply-to}
+use Rattle.little.specs.Little.{little, bytes, Bytes}
+use Rattle.frames.specs.Frames.{index-in, sub-in, name-in, data-in, command-of, read-command, cut, reply, reply-to}
 use Rattle.frames.specs.declared.types.Answer.the-variants.{Value}
 use Rattle.frames.specs.declared.types.Command.the-variants.{Read}
 use Rattle.frames.proofs.AnswerLaws.{write-sizes, spoken}
-use Rattle.promises.specs.Serving.{Bytes}
 use Rattle.promises.proofs.Accepted.{Accepted}
-use Rattle.promises.proofs.ByteLaws.{bytes-from, bytes-to, given-back, uncut}
+use Rattle.little.proofs.ByteLaws.{bytes-from, bytes-to, given-back}
+use Rattle.promises.proofs.ByteLaws.{uncut}
 use Rattle.promises.proofs.Writing.{there, of-own-size}
 
 module _ (words frame : List ℕ) (slot word : ℕ) (a : Accepted words frame slot word) (b : Bytes frame) where
@@ -37,7 +38,7 @@ module _ (words frame : List ℕ) (slot word : ℕ) (a : Accepted words frame sl
   module _ (l : length words ≡ unit-size) (query : List ℕ) (eight : length query ≡ 8) (c : getD query 0 0 ≡ 0x40) (n : name-in query ≡ name-in frame) where
     same-name : find (index-in query) (sub-in query) ≡ At slot
     unfolding index-in sub-in name-in
-    same-name = ap (λ (m : List ℕ). find (getD m 0 0 + 256 * getD m 1 0) (getD m 2 0)) n ∙ a .found
+    same-name = ap (λ (m : List ℕ). find (little (getD m 0 0 ∷ getD m 1 0 ∷ [])) (getD m 2 0)) n ∙ a .found
 
     a-read : command-of (getD query 0 0) ≡ Read
     unfolding command-of first

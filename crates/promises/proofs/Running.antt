@@ -27,7 +27,7 @@ use Rattle.inputs.specs.Inputs.{memory}
 use Rattle.controller.specs.Tick.{anyFlagged, ticked}
 use Rattle.controller.proofs.TickLaws as Tick
 use Rattle.promises.specs.Running.{Event, frame, tick, happens, run, Did, Ran, Only-the-fold, Made-of-bytes, Sound, Always-sound}
-use Rattle.promises.specs.Serving.{Bytes}
+use Rattle.little.specs.Little.{Bytes}
 use Rattle.promises.proofs.Accepted.{accepted}
 use Rattle.promises.proofs.Serving.{stays-valid}
 

@@ -14,7 +14,8 @@ use Rattle.frames.specs.declared.types.Answer.{Answer}
 use Rattle.frames.specs.declared.types.Answer.the-variants.{Silent, Aborted, Value, Written}
 use Rattle.frames.specs.declared.types.Command.the-variants.{Write}
 use Rattle.sdo.specs.Served.{after, filled}
-use Rattle.promises.specs.Serving.{Bytes, Untouched, Determined, Reads-back, Stays-valid, Decided-by-configuration}
+use Rattle.little.specs.Little.{Bytes}
+use Rattle.promises.specs.Serving.{Untouched, Determined, Reads-back, Stays-valid, Decided-by-configuration}
 use Rattle.promises.proofs.Accepted.{accepted}
 use Rattle.promises.proofs.Judged.{judged-same}
 use Rattle.promises.proofs.ReadBack.{reply-back}

@@ -26,9 +26,9 @@ use Rattle.configuration.proofs.Configuration.{in-unit}
 use Rattle.configuration.proofs.Neighbours.{near, another, is-another, upper-another, back-down, turned, both-ways, upper-same}
 use Rattle.frames.specs.Answers.{size-of}
 use Rattle.frames.specs.Frames.{data-in}
-use Rattle.promises.specs.Serving.{Bytes}
+use Rattle.little.specs.Little.{Bytes}
 use Rattle.promises.proofs.Accepted.{Accepted}
-use Rattle.promises.proofs.ByteLaws.{bytes-from, little-below}
+use Rattle.little.proofs.ByteLaws.{bytes-from, little-below}
 use Rattle.promises.proofs.Judged.{fitting}
 
 module _ (words frame : List ℕ) (slot word : ℕ) (a : Accepted words frame slot word) where

@@ -14,7 +14,7 @@ use Rattle.frames.specs.declared.types.Answer.{Answer}
 use Rattle.sdo.specs.Served.{Served, after}
 use Rattle.unit.specs.Entry.{entry}
 use Rattle.controller.specs.Tick.{anyFlagged, ticked}
-use Rattle.promises.specs.Serving.{Bytes}
+use Rattle.little.specs.Little.{Bytes}
 
 pub data Event : Type 0 where
   -- a frame, and the room that its reply has

@@ -4,6 +4,7 @@ use Prim.Native.Nat.{ℕ, _-_, _<_}
 use mathlib.Core.Path.{_≡_}
 use mathlib.Core.List.{List, _∷_, _++_}
 use lib.ListN.{length, getD, take, drop, replicate}
+use Rattle.little.specs.Little.{Bytes}
 use Rattle.dictionary.specs.Names.{configured, find}
 use Rattle.dictionary.specs.Unit.{unit-size}
 use Rattle.dictionary.specs.declared.types.Found.the-variants.{At}
@@ -16,10 +17,6 @@ use Rattle.frames.specs.declared.types.Answer.{Answer}
 use Rattle.frames.specs.declared.types.Answer.the-variants.{Silent, Aborted, Written}
 use Rattle.frames.specs.declared.types.Command.the-variants.{Write}
 use Rattle.sdo.specs.Served.{Served, after}
-
--- a frame is made of bytes
-abbrev pub Bytes : List ℕ → Type 0
-Bytes frame = (i : ℕ) → getD frame i 0 < 256
 
 -- "An abort changes no state"; where there is no reply the buffer is untouched too
 abbrev pub Untouched : Type 0

@@ -9,7 +9,8 @@ use lib.ListN.{length, getD, set, drop}
 use lib.Seq.{drop-cons}
 use denote.Enum.Declared.{tagOf}
 use types.Run.{OneOf, miss}
-use Rattle.frames.specs.Frames.{bytes, name-in, code, read-command, cut, reply, reply-to}
+use Rattle.little.specs.Little.{bytes}
+use Rattle.frames.specs.Frames.{name-in, code, read-command, cut, reply, reply-to}
 use Rattle.frames.specs.declared.types.Abort.{Abort}
 use Rattle.frames.specs.declared.types.Answer.{Answer}
 use Rattle.frames.specs.declared.types.Answer.the-variants.{Silent, Aborted, Value, Written}

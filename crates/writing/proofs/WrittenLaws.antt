@@ -1,6 +1,6 @@
 -- The count, and behind it the records of all entries, are the image; where it does not fit nothing is written.
 -- Assumes nothing.
-use mathlib.Core.Path.{_≡_, sym, ap, _∙_}
+use mathlib.Core.Path.{_≡_, refl, ap, _∙_}
 use mathlib.Core.List.{List, _++_}
 use Prim.Native.Nat.{ℕ, _+_, _<_, _≤_}
 use native.Mathlib.Omega.{arith}
@@ -11,7 +11,6 @@ use Rattle.little.specs.Little.{bytes}
 use Rattle.little.proofs.ByteLaws.{bytes-length}
 use Rattle.numbers.specs.Choice.{first}
 use Rattle.dictionary.specs.Names.{configured}
-use Rattle.dictionary.proofs.NameLaws.{counted}
 use Rattle.records.specs.Layout.{Listed, listed, records, image-of}
 use Rattle.records.specs.declared.types.Outcome.the-variants.{Good, Refused}
 use Rattle.records.specs.declared.types.Refusal.the-variants.{NoRoom}
@@ -20,6 +19,10 @@ use Rattle.writing.specs.Placing.{extent, Room, Placed}
 use Rattle.writing.specs.Written.{image-size, Written}
 use Rattle.writing.proofs.PlacingLaws.{put-behind}
 use Rattle.writing.proofs.ImageSize.{listed-extent, image-length}
+
+many : 611 ≡ configured
+unfolding configured
+many = refl
 
 -- behind the count, before the first record
 abbrev pub start : Front
@@ -40,7 +43,7 @@ module _ (words buffer : List ℕ) where
     unfolding image-of
     whole p =
         let long = image-length words in
-        put-behind (bytes 4 configured) (records listed words) buffer 0 (count ∙ ap (λ (n : ℕ). sets buffer 0 (bytes 4 n)) (sym (counted .0))) (p .stored ∙ ap (λ (l : List Listed). sets image 4 (records l words)) all) (omega (arith, bytes-length 4 configured))
+        put-behind (bytes 4 configured) (records listed words) buffer 0 (count ∙ ap (λ (n : ℕ). sets buffer 0 (bytes 4 n)) many) (p .stored ∙ ap (λ (l : List Listed). sets image 4 (records l words)) all) (omega (arith, bytes-length 4 configured))
         ∙ sets-eq (image-of words) buffer 0 (omega arith)
         ∙ rw long
 
