@@ -1,1 +1,4 @@
+pub mod ChainTrips
+pub mod ImageTrips
 pub mod LoadLaws
+pub mod RecordTrips

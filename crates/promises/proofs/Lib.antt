@@ -1,6 +1,7 @@
 pub mod Accepted
 pub mod Bench
 pub mod ByteLaws
+pub mod Images
 pub mod Judged
 pub mod ReadBack
 pub mod Running

@@ -1,3 +1,4 @@
 pub mod Bench
+pub mod Images
 pub mod Running
 pub mod Serving

@@ -101,7 +101,7 @@ pub counted : length listed ≡ 611
 unfolding listed
 counted = refl
 
-runs-sound : every sound runs ≡ true
+pub runs-sound : every sound runs ≡ true
 unfolding every sound two-bytes place offset entry size width listed runs
 runs-sound = refl
 

@@ -2,11 +2,12 @@
 -- Assumes nothing.
 use mathlib.Core.Path.{_≡_, refl, sym, ap, _∙_}
 use mathlib.Core.Bool.{Bool, true, false, not}
-use mathlib.Core.List.{List, [], _∷_}
+use mathlib.Core.List.{List, [], _∷_, _++_}
 use Prim.Native.Nat.{ℕ, _+_, _<_, _≤_}
 use native.Mathlib.Omega.{arith}
 use lib.Dec.{eqb, ltb}
 use lib.ListN.{length, take, drop, length-drop}
+use lib.Seq.{drop-drop}
 use borrow.Author.Tests.{ltb-false, le-ltb, eqb-true, eq-eqb}
 use Rattle.little.specs.Little.{little}
 use Rattle.numbers.specs.Choice.{first}
@@ -17,7 +18,7 @@ use Rattle.records.specs.declared.types.Refusal.{Refusal}
 use Rattle.records.specs.declared.types.Refusal.the-variants.{EndedEarly, WrongCount, NotNext, WrongSize, OutOfRange}
 use Rattle.records.specs.declared.types.Walked.{Walked}
 use Rattle.records.specs.declared.types.Walked.the-variants.{Taken, Refused}
-use Rattle.records.proofs.WalkLaws.{not-both, total}
+use Rattle.records.proofs.WalkLaws.{not-both, total, then-taken}
 
 -- ---- one record
 
@@ -89,6 +90,43 @@ pub all-taken : (es : List Listed) (rest : List ℕ) → All-right es rest → w
 unfolding walked and-then behind All-right total
 all-taken [] rest a = refl
 all-taken (e ∷ es) rest a = rw (taken e rest (a .0), all-taken es (drop (7 + size e) rest) (a .1))
+
+-- ---- "the first record with a fault decides"
+
+pub record Fault (es : List Listed) (rest : List ℕ) (why : Refusal) : Type 0 where
+  pub before : List Listed
+  pub at : Listed
+  pub after : List Listed
+  pub split : es ≡ before ++ (at ∷ after)
+  pub rights : All-right before rest
+  pub refused : decoded at (drop (total before) rest) ≡ Refused why
+
+pub first-fault : (es : List Listed) (rest : List ℕ) {why : Refusal} → walked es rest ≡ Refused why → Fault es rest why
+unfolding walked and-then behind All-right total
+first-fault [] rest t = absurd (not-both (sym t))
+first-fault (e ∷ es) rest {why} t = go (decoded e rest) refl (walked es (drop (7 + size e) rest)) (λ other q. first-fault es (drop (7 + size e) rest) q) t
+  where
+    go : (d : Walked) → decoded e rest ≡ d → (w : Walked) → ((other : Refusal) → w ≡ Refused other → Fault es (drop (7 + size e) rest) other)
+        → and-then d w ≡ Refused why → Fault (e ∷ es) rest why
+    go (Refused other) p w q t = record { before = []; at = e; after = es; split = refl; rights = tt; refused = p ∙ t }
+    go (Taken m) p (Taken k) q t = absurd (not-both (sym t))
+    go (Taken m) p (Refused other) q t =
+        let later = q why t in
+        record {
+          before = e ∷ later .before;
+          at = later .at;
+          after = later .after;
+          split = ap (λ (l : List Listed). e ∷ l) (later .split);
+          rights = (right e rest p, later .rights);
+          refused = ap (decoded (later .at)) (sym (drop-drop (total (later .before)) (7 + size e) rest)) ∙ later .refused;
+        }
+
+pub fault-first : (es : List Listed) (rest : List ℕ) {why : Refusal} → Fault es rest why → walked es rest ≡ Refused why
+unfolding walked and-then behind
+fault-first es rest f =
+    ap (λ (l : List Listed). walked l rest) (f .split)
+    ∙ then-taken (f .before) (f .at ∷ f .after) rest (all-taken (f .before) rest (f .rights)) .0
+    ∙ rw (f .refused)
 
 -- ---- the whole image
 
