@@ -15,7 +15,7 @@ use Rattle.numbers.specs.Order.{below}
 use Rattle.numbers.specs.Signed.{twos, signed16}
 use Rattle.dictionary.specs.Rows.{width, i16}
 use Rattle.dictionary.specs.declared.types.Kind.{Kind}
-use Rattle.dictionary.specs.declared.types.Kind.the-variants.{Integer16, Unsigned16}
+use Rattle.dictionary.specs.declared.types.Kind.the-variants.{Unsigned8, Integer16, Unsigned16}
 use Rattle.dictionary.specs.declared.types.Range.{Range}
 use Rattle.dictionary.proofs.Families.{apart-from, Apart, apart-first}
 use Rattle.dictionary.proofs.Tabulate.{tabulate}
@@ -83,7 +83,16 @@ kind-whole {role} l = go (decLt role 17)
     go (yes h) = kind-on Integer16 l h refl
     go (no n) = sym (ap (λ (r : Range). r .kind) (ranged-whole {role = role} (omega arith)))
 
--- from the REAL32's role on, two bytes
+-- below the REAL32's role, bytes
+pub kind-byte : {role : ℕ} → role < 10 → Unsigned8 ≡ ranged role .kind
+unfolding tabulate ranged ranges chosen first
+kind-byte {role} h = kind-on Unsigned8 zero-le h refl
+
+pub one-wide : {role : ℕ} → role < 10 → 1 ≡ width (ranged role .kind)
+unfolding width
+one-wide h = ap width (kind-byte h)
+
+-- past the REAL32's role, two bytes
 pub two-wide : {role : ℕ} → 10 < role → 2 ≡ width (ranged role .kind)
 unfolding width ranged ranges chosen first
 two-wide {role} l = go (decLt role 12)

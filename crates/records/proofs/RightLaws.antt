@@ -13,7 +13,7 @@ use Rattle.little.specs.Little.{little}
 use Rattle.numbers.specs.Choice.{first}
 use Rattle.dictionary.specs.Names.{configured}
 use Rattle.records.specs.Layout.{Listed, size, listed}
-use Rattle.records.specs.Walk.{index-in, sub-in, size-in, data-in, fits, valued, decoded, behind, and-then, walked, taken-in}
+use Rattle.records.specs.Walk.{index-in, sub-in, size-in, data-in, fits, valued, sized, decoded, behind, and-then, walked, taken-in}
 use Rattle.records.specs.declared.types.Refusal.{Refusal}
 use Rattle.records.specs.declared.types.Refusal.the-variants.{EndedEarly, WrongCount, NotNext, WrongSize, OutOfRange}
 use Rattle.records.specs.declared.types.Walked.{Walked}
@@ -31,7 +31,7 @@ pub record Right (e : Listed) (rest : List ℕ) : Type 0 where
 
 module _ (e : Listed) (rest : List ℕ) where
   pub right : {n : ℕ} → decoded e rest ≡ Taken n → Right e rest
-  unfolding decoded valued first
+  unfolding decoded sized valued first
   right {n} t =
       go (ltb (length rest) 7) (eqb (index-in rest) (e .index)) refl (eqb (sub-in rest) (e .sub)) refl (eqb (size-in rest) (size e)) refl
       (ltb (length rest) (7 + size e)) refl (fits e (data-in (size e) rest)) refl t
@@ -57,7 +57,7 @@ module _ (e : Listed) (rest : List ℕ) where
           }
 
   pub taken : Right e rest → decoded e rest ≡ Taken (7 + size e)
-  unfolding decoded valued first
+  unfolding decoded sized valued first
   taken r =
       let h = r .room in
       rw (

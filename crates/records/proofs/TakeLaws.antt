@@ -18,7 +18,7 @@ use Rattle.entries.specs.Judge.{in-range, is-good}
 use Rattle.roles.specs.Roles.{ranged}
 use Rattle.records.specs.Layout.{Listed, size}
 use Rattle.records.specs.Rows.{role-at, entry-at}
-use Rattle.records.specs.Walk.{index-in, sub-in, size-in, data-in, data-there, fits, valued, decoded}
+use Rattle.records.specs.Walk.{index-in, sub-in, size-in, data-in, data-there, fits, valued, sized, decoded}
 use Rattle.records.specs.declared.types.Refusal.the-variants.{EndedEarly, NotNext, WrongSize, OutOfRange}
 use Rattle.records.specs.declared.types.Walked.{Walked}
 use Rattle.records.specs.declared.types.Walked.the-variants.{Taken, Refused}
@@ -104,25 +104,28 @@ module _ (e : Listed) (rest : List ℕ) where
     unfolding decoded first
     other-sub n = rw (le-ltb (length rest) 7 h, eq-eqb (index-in rest) (e .index) i, ne-eqb (sub-in rest) (e .sub) n)
 
-    pub other-size : sub-in rest ≡ e .sub → (size-in rest ≡ size e → ⊥) → Refused WrongSize ≡ decoded e rest
+    pub name-right : sub-in rest ≡ e .sub → sized e rest ≡ decoded e rest
     unfolding decoded first
-    other-size s n =
-        rw (le-ltb (length rest) 7 h, eq-eqb (index-in rest) (e .index) i, eq-eqb (sub-in rest) (e .sub) s, ne-eqb (size-in rest) (size e) n)
+    name-right s = rw (le-ltb (length rest) 7 h, eq-eqb (index-in rest) (e .index) i, eq-eqb (sub-in rest) (e .sub) s)
 
-    pub head-right : sub-in rest ≡ e .sub → size-in rest ≡ size e → valued e rest ≡ decoded e rest
-    unfolding decoded first
-    head-right s n =
-        rw (le-ltb (length rest) 7 h, eq-eqb (index-in rest) (e .index) i, eq-eqb (sub-in rest) (e .sub) s, eq-eqb (size-in rest) (size e) n)
+  pub other-size : {n : ℕ} → n ≡ size e → (size-in rest ≡ n → ⊥) → Refused WrongSize ≡ sized e rest
+  unfolding sized first
+  other-size q n = rw (ne-eqb (size-in rest) (size e) (λ r. n (r ∙ sym q)))
 
-  pub no-data : {n : ℕ} → n ≡ size e → length rest < 7 + n → Refused EndedEarly ≡ valued e rest
-  unfolding valued first
-  no-data q h = rw (lt-ltb (length rest) (7 + size e) (omega arith))
+  size-right : {n : ℕ} → n ≡ size e → size-in rest ≡ n → valued e rest ≡ sized e rest
+  unfolding sized first
+  size-right q n = rw (eq-eqb (size-in rest) (size e) (n ∙ q))
 
-  module _ {n word : ℕ} (q : n ≡ size e) (h : 7 + n ≤ length rest) (d : word ≡ data-in n rest) where
-    pub unfit : {b : Bool} → b ≡ fits e word → b ≡ false → Refused OutOfRange ≡ valued e rest
+  module _ {n : ℕ} (q : n ≡ size e) (s : size-in rest ≡ n) where
+    pub no-data : length rest < 7 + n → Refused EndedEarly ≡ sized e rest
     unfolding valued first
-    unfit f t = rw (le-ltb (length rest) (7 + size e) (omega arith), ← q, ← d, ← f, t)
+    no-data h = rw (lt-ltb (length rest) (7 + size e) (omega arith)) at (size-right q s)
 
-    pub fit : {b : Bool} → b ≡ fits e word → b ≡ true → Taken (7 + n) ≡ valued e rest
-    unfolding valued first
-    fit f t = rw (le-ltb (length rest) (7 + size e) (omega arith), ← q, ← d, ← f, t)
+    module _ {word : ℕ} (h : 7 + n ≤ length rest) (d : word ≡ data-in n rest) where
+      pub unfit : {b : Bool} → b ≡ fits e word → b ≡ false → Refused OutOfRange ≡ sized e rest
+      unfolding valued first
+      unfit f t = rw (le-ltb (length rest) (7 + size e) (omega arith), ← q, ← d, ← f, t) at (size-right q s)
+
+      pub fit : {b : Bool} → b ≡ fits e word → b ≡ true → Taken (7 + n) ≡ sized e rest
+      unfolding valued first
+      fit f t = rw (le-ltb (length rest) (7 + size e) (omega arith), ← q, ← d, ← f, t) at (size-right q s)

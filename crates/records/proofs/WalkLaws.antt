@@ -15,7 +15,7 @@ use Rattle.numbers.specs.Choice.{first}
 use Rattle.dictionary.specs.Names.{configured}
 use Rattle.records.specs.Layout.{Listed, size, listed}
 use Rattle.records.specs.Rows.{row-from, row-of, entry-at, first-sub, last-sub}
-use Rattle.records.specs.Walk.{index-in, sub-in, size-in, data-in, fits, valued, decoded, behind, and-then, walked, taken-in}
+use Rattle.records.specs.Walk.{index-in, sub-in, size-in, data-in, fits, valued, sized, decoded, behind, and-then, walked, taken-in}
 use Rattle.records.specs.declared.types.Refusal.{Refusal}
 use Rattle.records.specs.declared.types.Refusal.the-variants.{EndedEarly, WrongCount, NotNext, WrongSize, OutOfRange}
 use Rattle.records.specs.declared.types.Walked.{Walked}
@@ -42,7 +42,7 @@ module _ (e : Listed) (rest : List ℕ) {n : ℕ} where
       go false q true t = let l = ltb-false (length rest) (7 + size e) q in let m = same-many t in (m, omega arith)
 
   pub whole-taken : decoded e rest ≡ Taken n → (n ≡ 7 + size e) × (n ≤ length rest)
-  unfolding decoded first
+  unfolding decoded sized first
   whole-taken t = go (ltb (length rest) 7) (eqb (index-in rest) (e .index)) (eqb (sub-in rest) (e .sub)) (eqb (size-in rest) (size e)) t
     where
       go : (short index sub sized : Bool) → first short (Refused EndedEarly) (first (not index) (Refused NotNext) (first (not sub) (Refused NotNext) (first (not sized) (Refused WrongSize) (valued e rest)))) ≡ Taken n → (n ≡ 7 + size e) × (n ≤ length rest)

@@ -62,14 +62,17 @@ valued e rest =
     (first (not (fits e (data-in (size e) rest))) (Refused OutOfRange)
     (Taken (7 + size e)))
 
--- "1 ended early", "3 not the next entry", "4 size": the seven bytes of a record's head are one piece
+-- "4 size"
+unfoldable pub sized : Listed → List ℕ → Walked
+sized e rest = first (not (eqb (size-in rest) (size e))) (Refused WrongSize) (valued e rest)
+
+-- "1 ended early", "3 not the next entry": the seven bytes of a record's head are one piece
 unfoldable pub decoded : Listed → List ℕ → Walked
 decoded e rest =
     first (ltb (length rest) 7) (Refused EndedEarly)
     (first (not (eqb (index-in rest) (e .index))) (Refused NotNext)
     (first (not (eqb (sub-in rest) (e .sub))) (Refused NotNext)
-    (first (not (eqb (size-in rest) (size e))) (Refused WrongSize)
-    (valued e rest))))
+    (sized e rest)))
 
 -- so many bytes before what is taken
 unfoldable pub behind : ℕ → Walked → Walked

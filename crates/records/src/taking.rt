@@ -1,9 +1,11 @@
 // One record, and the records of one row.
 ghost use mathlib.Core.Path.{_≡_};
+ghost use Prim.Native.Nat.{_≤_};
+ghost use lib.ListN.{length};
 ghost use Rattle.dictionary.specs.Rows.{width};
 ghost use Rattle.roles.specs.Roles.{ranged};
 ghost use Rattle.records.specs.Rows.{role-at, entry-at, row-of};
-ghost use Rattle.records.specs.Walk.{valued, decoded, walked};
+ghost use Rattle.records.specs.Walk.{sized, decoded, walked};
 use super::data::data_in;
 use super::heads::index_in;
 use super::heads::size_in;
@@ -12,12 +14,17 @@ use super::types::Refusal;
 use super::types::Walked;
 use entries::judging::fits;
 use entries::ranges::width_of;
+use roles::telling::REAL;
+use roles::telling::WHOLE;
 
-// A record whose head is right.
-fn take_data(rest: &[u8], row: u32, sub: u8, role: u8, size: u8) -> Walked
-    requires { ⌜ (role ≡ role-at row sub) × (size ≡ width (ranged role .kind)) ⌝ }
-    ensures { λ r. ⌜ r ≡ valued (entry-at row sub) (now (rest .entry)) ⌝ }
+// A record of a role and its size.
+fn take_sized(rest: &[u8], row: u32, sub: u8, role: u8, size: u8) -> Walked
+    requires { ⌜ (7 ≤ length (now rest)) × (role ≡ role-at row sub) × (size ≡ width (ranged role .kind)) ⌝ }
+    ensures { λ r. ⌜ r ≡ sized (entry-at row sub) (now (rest .entry)) ⌝ }
 {
+    if size_in(rest) != size as u32 {
+        return Walked::Refused(Refusal::WrongSize);
+    }
     if rest.len() < 7 + size as usize {
         return Walked::Refused(Refusal::EndedEarly);
     }
@@ -25,6 +32,21 @@ fn take_data(rest: &[u8], row: u32, sub: u8, role: u8, size: u8) -> Walked
         return Walked::Taken(7 + size as usize);
     }
     Walked::Refused(Refusal::OutOfRange)
+}
+
+// A record whose name is right. Bytes and whole numbers, nearly all there is, go with a size that is known.
+fn take_named(rest: &[u8], row: u32, sub: u8) -> Walked
+    requires { ⌜ 7 ≤ length (now rest) ⌝ }
+    ensures { λ r. ⌜ r ≡ sized (entry-at row sub) (now (rest .entry)) ⌝ }
+{
+    let role = role_at(row, sub);
+    if role < REAL {
+        return take_sized(rest, row, sub, role, 1);
+    }
+    if WHOLE <= role {
+        return take_sized(rest, row, sub, role, 2);
+    }
+    take_sized(rest, row, sub, role, width_of(role))
 }
 
 fn take_record(rest: &[u8], row: u32, sub: u8) -> Walked
@@ -39,12 +61,7 @@ fn take_record(rest: &[u8], row: u32, sub: u8) -> Walked
     if rest[2] != sub {
         return Walked::Refused(Refusal::NotNext);
     }
-    let role = role_at(row, sub);
-    let size = width_of(role);
-    if size_in(rest) != size as u32 {
-        return Walked::Refused(Refusal::WrongSize);
-    }
-    take_data(rest, row, sub, role, size)
+    take_named(rest, row, sub)
 }
 
 // The records of a row, one after the other.

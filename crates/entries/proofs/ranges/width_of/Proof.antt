@@ -1,15 +1,11 @@
 -- `entries::ranges::width_of` meets its contract: a role has the range that its number stands for (`KeyLaws`).
 -- Assumes nothing.
-use mathlib.Core.Path.{refl, ap}
 use native.Mathlib.Omega.{arith}
 use borrow.Author.Needs.{needs}
-use Prim.Native.Nat.{zero-le}
 use Rattle.numbers.specs.Choice.{first}
 use Rattle.dictionary.specs.Rows.{width}
-use Rattle.dictionary.specs.declared.types.Kind.the-variants.{Unsigned8}
-use Rattle.dictionary.proofs.Tabulate.{tabulate}
 use Rattle.roles.specs.Roles.{ranged, ranges, chosen}
-use Rattle.entries.proofs.KeyLaws.{kind-on, two-wide}
+use Rattle.entries.proofs.KeyLaws.{one-wide, two-wide}
 use Rattle.entries.proofs.ranges.width_of.Statement.{statement}
 use Rattle.entries.proofs.ranges.width_of.Tie as tie
 
@@ -18,8 +14,7 @@ unfolding width ranged ranges chosen first
 returns c = rw (c .if1 .taken)
 
 returns-2 : tie.Need-returns-2
-unfolding width tabulate ranged ranges chosen first
-returns-2 c = ap width (kind-on Unsigned8 zero-le (c .if2 .taken) refl)
+returns-2 c = one-wide (c .if2 .taken)
 
 returns-3 : tie.Need-returns-3
 returns-3 c = two-wide (omega arith)

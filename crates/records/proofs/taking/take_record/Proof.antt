@@ -1,10 +1,9 @@
 -- `records::taking::take_record` meets its contract, test by test (`TakeLaws`).
 -- Assumes nothing.
-use mathlib.Core.Path.{_≡_, refl, sym, ap, _∙_}
-use native.Mathlib.Omega.{arith}
+use mathlib.Core.Path.{_≡_, sym, _∙_}
 use Rattle.records.specs.Rows.{entry-at}
 use Rattle.records.specs.Walk.{sub-in}
-use Rattle.records.proofs.TakeLaws.{same-size, no-head, other-index, other-sub, other-size, head-right}
+use Rattle.records.proofs.TakeLaws.{no-head, other-index, other-sub, name-right}
 use borrow.Author.Needs.{needs}
 use Rattle.records.proofs.taking.take_record.Statement.{statement}
 use Rattle.records.proofs.taking.take_record.Tie as tie
@@ -30,30 +29,13 @@ unfolding entry-at sub-in
 returns-3 c =
     other-sub _ _ (c .before .before .before .before .if1 .left) (sym (c .before .before .before .index-in .ensures) ∙ c .before .before .if2 .left) (c .if3 .taken)
 
-role-at-requires : tie.Need-role-at-requires
-role-at-requires c κs = search needs
-
-width-of-requires : tie.Need-width-of-requires
-width-of-requires c κs = search needs
-
-size-in-requires : tie.Need-size-in-requires
-size-in-requires c κs = search needs
-
-cast-if4 : tie.Need-cast-if4
-cast-if4 c = search needs
+take-named-requires : tie.Need-take-named-requires
+take-named-requires c κs = search needs
 
 returns-4 : tie.Need-returns-4
 unfolding entry-at sub-in
 returns-4 c =
-    other-size _ _ (c .before .before .before .before .before .before .before .before .if1 .left) (sym (c .before .before .before .before .before .before .before .index-in .ensures) ∙ c .before .before .before .before .before .before .if2 .left) (c .before .before .before .before .if3 .left) (λ q. c .if4 .taken (c .before .size-in .ensures ∙ q ∙ sym (same-size _ _ (c .before .before .before .role-at .ensures) (c .before .before .width-of .ensures))))
-
-take-data-requires : tie.Need-take-data-requires
-take-data-requires c κs = search needs
-
-returns-5 : tie.Need-returns-5
-unfolding entry-at sub-in
-returns-5 c =
-    c .take-data .ensures ∙ head-right _ _ (c .before .before .before .before .before .before .before .before .before .if1 .left) (sym (c .before .before .before .before .before .before .before .before .index-in .ensures) ∙ c .before .before .before .before .before .before .before .if2 .left) (c .before .before .before .before .before .if3 .left) (sym (c .before .before .size-in .ensures) ∙ c .before .if4 .left ∙ same-size _ _ (c .before .before .before .before .role-at .ensures) (c .before .before .before .width-of .ensures))
+    c .take-named .ensures ∙ name-right _ _ (c .before .before .before .before .before .if1 .left) (sym (c .before .before .before .before .index-in .ensures) ∙ c .before .before .before .if2 .left) (c .before .if3 .left)
 
 pub take-record-spec : {M : Type 1} → statement M
 take-record-spec =
@@ -65,10 +47,5 @@ take-record-spec =
     returns-2
     shared-slice-read-if3
     returns-3
-    role-at-requires
-    width-of-requires
-    size-in-requires
-    cast-if4
-    returns-4
-    take-data-requires
-    returns-5)
+    take-named-requires
+    returns-4)
