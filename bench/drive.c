@@ -1,6 +1,12 @@
 /* Drives one side (-DSIDE=plain, valve or empty) through a file of events and writes what it answered. It stands on system calls
-   alone, so that nothing but events adds to the instructions of a run. An event is 16 bytes: 'S' or 'T', seven bytes of nothing,
-   then a frame or four samples. An answer is 16 bytes: the reply's length, seven bytes of nothing, the reply. */
+   alone, so that nothing but events adds to the instructions of a run. An event is 16 bytes: a letter, seven bytes of nothing, and
+
+       S, a frame                 T, four samples
+       W, I, L, a length          valve_save into the image, valve_check and valve_load of it, so many bytes of it
+       B, a place and a byte      the byte at this place of the image
+
+   An answer is 16 bytes: the reply's length, seven bytes of nothing, the reply; that of W, I and L is the number returned. The whole
+   image comes behind the answers. */
 #include HEADER
 #include "bare.h"
 
@@ -12,29 +18,59 @@ struct event {
     union {
         uint8_t frame[8];
         int16_t samples[4];
+        uint32_t length;
+        struct {
+            uint32_t place;
+            uint8_t byte;
+        };
     };
 };
 
 struct answer {
-    uint8_t length, nothing[7], reply[8];
+    uint8_t length, nothing[7];
+    union {
+        uint8_t reply[8];
+        int32_t number;
+    };
 };
 
-enum { EVENTS = 1 << 19 };
+enum { EVENTS = 1 << 19, IMAGE = 5300 };
 
 static struct event events[EVENTS];
 static struct answer answers[EVENTS];
 static uint64_t unit[512]; /* room for either side's */
+static uint8_t image[IMAGE];
+
+static int32_t call_for(const struct event *event)
+{
+    if (event->kind == 'W')
+        return CALL(SIDE, save)((void *)unit, image, event->length);
+    if (event->kind == 'I')
+        return CALL(SIDE, check)(image, event->length);
+    return CALL(SIDE, load)((void *)unit, image, event->length);
+}
+
+static void take(const struct event *event, struct answer *answer)
+{
+    if (event->kind == 'S') {
+        answer->length = (uint8_t)CALL(SIDE, serve)((void *)unit, event->frame, 8, answer->reply, 8);
+    } else if (event->kind == 'T') {
+        CALL(SIDE, tick)((void *)unit, event->samples);
+    } else if (event->kind == 'B') {
+        image[event->place] = event->byte;
+    } else {
+        answer->number = call_for(event);
+        answer->length = sizeof answer->number;
+    }
+}
 
 void run(void)
 {
     long count = call(SYS_READ, 0, events, sizeof events) / (long)sizeof *events;
     CALL(SIDE, start)((void *)unit);
-    for (long i = 0; i < count; i++) {
-        if (events[i].kind == 'S')
-            answers[i].length = (uint8_t)CALL(SIDE, serve)((void *)unit, events[i].frame, 8, answers[i].reply, 8);
-        else
-            CALL(SIDE, tick)((void *)unit, events[i].samples);
-    }
+    for (long i = 0; i < count; i++)
+        take(&events[i], &answers[i]);
     call(SYS_WRITE, 1, answers, count * (long)sizeof *answers);
+    call(SYS_WRITE, 1, image, sizeof image);
     call(SYS_EXIT, 0, 0, 0);
 }

@@ -5,4 +5,7 @@
 void empty_start(uint32_t *unit);
 int32_t empty_serve(uint32_t *unit, const uint8_t *frame, size_t frame_length, uint8_t *reply, size_t reply_length);
 void empty_tick(uint32_t *unit, const int16_t *samples);
-__asm__("empty_start: empty_serve: empty_tick: ret");
+int32_t empty_save(const uint32_t *unit, uint8_t *image, size_t image_length);
+int32_t empty_check(const uint8_t *image, size_t image_length);
+int32_t empty_load(uint32_t *unit, const uint8_t *image, size_t image_length);
+__asm__("empty_start: empty_serve: empty_tick: empty_save: empty_check: empty_load: ret");

@@ -383,3 +383,142 @@ void plain_tick(struct plain *s, const int16_t *samples)
         s->command[k] = commanded(s, k);
     s->error_register = s->flagged[0] || s->flagged[1] || s->flagged[2] || s->flagged[3] ? 0x21 : 0;
 }
+
+/* ---- Images: a count, then a record for each entry of the configuration, the head of which is index, sub and size */
+
+enum {
+    ENDED_EARLY = -1,
+    WRONG_COUNT = -2,
+    NOT_NEXT = -3,
+    WRONG_SIZE = -4,
+    OUT_OF_RANGE = -5,
+    OUT_OF_ORDER = -6,
+    LEFT_OVER = -7,
+    NO_ROOM = -8,
+};
+enum { ENTRIES = 611, COUNT = 4, HEAD = 7, IMAGE = 5207 };
+
+static uint32_t load16(const uint8_t *p) { return p[0] | p[1] << 8; }
+
+static void store16(uint8_t *p, uint32_t v)
+{
+    p[0] = v;
+    p[1] = v >> 8;
+}
+
+/* What is only shown is no configuration, and the EC values are not either. */
+static int is_configured(const struct row *row) { return !row->fixed && row->name >> 8 != 0x2500; }
+
+/* The first sub with an entry: an ARRAY's sub 0 is its largest sub. */
+static uint32_t first_sub(const struct row *row)
+{
+    uint32_t first = row->name & 0xFF;
+    return first == 0 && row->largest ? 1 : first;
+}
+
+/* The value of one record of so many bytes, or how the record is wrong. */
+static int32_t decode(const struct row *row, uint32_t sub, const uint8_t *record, size_t length, int32_t *value)
+{
+    uint32_t size = types[row->type].size, data;
+    if (length < HEAD)
+        return ENDED_EARLY;
+    if (load16(record) != row->name >> 8 || record[2] != sub)
+        return NOT_NEXT;
+    if (load32(record + 3) != size)
+        return WRONG_SIZE;
+    if (length < HEAD + size)
+        return ENDED_EARLY;
+    data = size == 1 ? record[HEAD] : size == 2 ? load16(record + HEAD) : load32(record + HEAD);
+    *value = decoded(row->type, data);
+    if (row->type == R32 && (data & 0x7F800000) == 0x7F800000)
+        return OUT_OF_RANGE;
+    return *value < row->low || *value > row->high ? OUT_OF_RANGE : 0;
+}
+
+/* Decodes every record into s. */
+static int32_t decode_all(struct plain *s, const uint8_t *image, size_t length)
+{
+    size_t at = COUNT;
+    if (length < COUNT)
+        return ENDED_EARLY;
+    if (load32(image) != ENTRIES)
+        return WRONG_COUNT;
+    for (const struct row *row = rows; row < rows + ROWS; row++) {
+        if (!is_configured(row))
+            continue;
+        for (uint32_t sub = first_sub(row); sub <= row->last; sub++) {
+            int32_t value, wrong = decode(row, sub, image + at, length - at, &value);
+            if (wrong)
+                return wrong;
+            set_word(s, row->word + (int32_t)sub, value);
+            at += HEAD + types[row->type].size;
+        }
+    }
+    return at < length ? LEFT_OVER : 0;
+}
+
+static int is_in_order(const struct plain *s)
+{
+    for (const struct row *row = rows; row < rows + ROWS; row++) {
+        if (!row->above)
+            continue;
+        for (int32_t at = row->word + (int32_t)first_sub(row); at <= row->word + row->last; at++)
+            if (word_at(s, at) + row->above_gap > word_at(s, at + row->above))
+                return 0;
+    }
+    return 1;
+}
+
+/* The configuration goes to s, which is a scratch unit where it turns out to be wrong. */
+static int32_t read_image(struct plain *s, const uint8_t *image, size_t length)
+{
+    int32_t wrong = decode_all(s, image, length);
+    return wrong ? wrong : is_in_order(s) ? 0 : OUT_OF_ORDER;
+}
+
+int32_t plain_check(const uint8_t *image, size_t length)
+{
+    struct plain scratch;
+    return read_image(&scratch, image, length);
+}
+
+int32_t plain_load(struct plain *s, const uint8_t *image, size_t length)
+{
+    struct plain scratch;
+    int32_t wrong = read_image(&scratch, image, length);
+    if (wrong)
+        return wrong;
+    for (const struct row *row = rows; row < rows + ROWS; row++)
+        if (is_configured(row))
+            for (int32_t at = row->word + (int32_t)first_sub(row); at <= row->word + row->last; at++)
+                set_word(s, at, word_at(&scratch, at));
+    return 0;
+}
+
+/* Writes the record; behind it. */
+static uint8_t *encode(const struct row *row, uint32_t sub, uint32_t word, uint8_t *record)
+{
+    uint32_t size = types[row->type].size;
+    store16(record, row->name >> 8);
+    record[2] = sub;
+    store32(record + 3, size);
+    switch (size) {
+    case 1: record[HEAD] = word; break;
+    case 2: store16(record + HEAD, word); break;
+    default: store32(record + HEAD, word); break;
+    }
+    return record + HEAD + size;
+}
+
+int32_t plain_save(const struct plain *s, uint8_t *image, size_t length)
+{
+    uint8_t *record = image + COUNT;
+    if (length < IMAGE)
+        return NO_ROOM;
+    store32(image, ENTRIES);
+    for (const struct row *row = rows; row < rows + ROWS; row++)
+        if (is_configured(row))
+            for (uint32_t sub = first_sub(row); sub <= row->last; sub++)
+                record = encode(row, sub, (uint32_t)word_at(s, row->word + (int32_t)sub), record);
+    return 0;
+}

@@ -1,4 +1,4 @@
-/* The controller of document 01 in plain C: its state and its three calls, as crates/firmware/valve.h has them. */
+/* The controller of document 01 in plain C: its state and its calls, as crates/firmware/valve.h has them. */
 #ifndef PLAIN_H
 #define PLAIN_H
 #include <stddef.h>
@@ -59,4 +59,7 @@ struct plain {
 void plain_start(struct plain *s);
 int32_t plain_serve(struct plain *s, const uint8_t *frame, size_t frame_length, uint8_t *reply, size_t reply_length);
 void plain_tick(struct plain *s, const int16_t *samples);
+int32_t plain_save(const struct plain *s, uint8_t *image, size_t length);
+int32_t plain_check(const uint8_t *image, size_t length);
+int32_t plain_load(struct plain *s, const uint8_t *image, size_t length);
 #endif

@@ -1,7 +1,8 @@
 """Builds the sides that are compared, runs events on one, and counts the instructions of a run.
 
 A side is the program of drive.c over `plain` (plain.c), `valve` (the crate firmware) or `empty` (calls that
-do nothing). An event is a frame of 8 bytes or a tuple of four samples. Only the kit's compiler is used. On an
+do nothing). An event is a frame of 8 bytes, a tuple of four samples, or one of Save, Check, Load and Spoil, which
+are about the one image that a run has. Only the kit's compiler is used. On an
 x86-64 a run is counted by single steps, elsewhere by the log of the kit's emulator; both give every instruction.
 """
 
@@ -12,6 +13,7 @@ import platform
 import struct
 import subprocess
 import tempfile
+from typing import NamedTuple
 
 HERE = pathlib.Path(__file__).resolve().parent
 ROOT = HERE.parent
@@ -56,9 +58,38 @@ def build(side):
     return linked(side, parts)
 
 
+IMAGE_BYTES = 5207
+
+
+class Save(NamedTuple):
+    length: int = IMAGE_BYTES
+
+
+class Check(NamedTuple):
+    length: int = IMAGE_BYTES
+
+
+class Load(NamedTuple):
+    length: int = IMAGE_BYTES
+
+
+class Spoil(NamedTuple):
+    """Another byte in the image."""
+
+    place: int
+    byte: int
+
+
+LETTERS = {Save: b"W", Check: b"I", Load: b"L"}
+
+
 def _event(event):
     if isinstance(event, bytes):
         return struct.pack("<8s8s", b"S", event)
+    if isinstance(event, Spoil):
+        return struct.pack("<8sIB3x", b"B", *event)
+    if type(event) in LETTERS:
+        return struct.pack("<8sI4x", LETTERS[type(event)], event.length)
     return struct.pack("<8s4h", b"T", *event)
 
 
@@ -69,11 +100,16 @@ def _input(events):
     return file
 
 
-def answers(program, events):
-    """The reply to each frame, empty where there is none; a tick's is empty."""
+def answers_and_image(program, events):
+    """The reply to each frame, empty where there is none, or the number returned; a tick's is empty. Then the image."""
     with _input(events) as file:
-        done = subprocess.run([*EMULATOR, program], stdin=file, stdout=subprocess.PIPE, check=True)
-    return [reply[:length] for length, reply in struct.iter_unpack("<B7x8s", done.stdout)]
+        out = subprocess.run([*EMULATOR, program], stdin=file, stdout=subprocess.PIPE, check=True).stdout
+    end = 16 * len(events)
+    return [reply[:length] for length, reply in struct.iter_unpack("<B7x8s", out[:end])], out[end:]
+
+
+def answers(program, events):
+    return answers_and_image(program, events)[0]
 
 
 def _stepped(program, file):

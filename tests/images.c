@@ -4,15 +4,15 @@
 
        U, all words of the unit                          nothing
        I, an image        valve_check, valve_load        both results, what was touched (TOUCHED_..), the unit's first 611 words
-       S, words, room, a byte    valve_save into a       the result, what was touched, the whole buffer
-                          buffer full of that byte
+       S, room, a byte    valve_save into a buffer       the result, what was touched, the whole buffer
+                          full of that byte
        F, a frame         valve_serve                    the length of the reply, the reply
 
    What is lent ends where memory begins that nobody may touch: a call that goes past it ends the program. */
 #include "valve.h"
 #include "bare.h"
 
-enum { ENTRIES = 611, IMAGE = 5207 };
+enum { ENTRIES = 611 };
 enum { TOUCHED_IMAGE_BY_CHECK = 1, TOUCHED_IMAGE_BY_LOAD = 2, TOUCHED_UNIT = 4, TOUCHED_BUFFER = 8 };
 enum { MOST = 8192, PAGE = 65536 }; /* the largest page of any processor that emulates this one */
 
@@ -105,17 +105,17 @@ static void check_and_load(const uint8_t *bytes, size_t length)
     add(unit, 4 * ENTRIES);
 }
 
-static void save(size_t words, size_t room, uint8_t filler)
+static void save(size_t room, uint8_t filler)
 {
     uint8_t empty[MOST];
     int32_t what = 0;
     memset(empty, filler, room);
     uint8_t *buffer = lend(&images, empty, room);
-    const uint32_t *lent = (const uint32_t *)(const void *)lend(&saved_units, unit, 4 * words);
-    int32_t saved = valve_save(lent, words, buffer, room);
+    const uint32_t *lent = (const uint32_t *)(const void *)lend(&saved_units, unit, 4 * VALVE_UNIT);
+    int32_t saved = valve_save(lent, buffer, room);
     if (touched(&saved_units, lent, 0))
         what |= TOUCHED_UNIT;
-    if (touched(&images, buffer, saved == 0 ? IMAGE : 0))
+    if (touched(&images, buffer, saved == 0 ? VALVE_IMAGE : 0))
         what |= TOUCHED_BUFFER;
     add_number(saved);
     add_number(what);
@@ -166,7 +166,7 @@ static void answer_one(void)
     else if (request[0] == 'I')
         check_and_load(request + 1, length - 1);
     else if (request[0] == 'S')
-        save(number_at(request + 1), number_at(request + 5), request[9]);
+        save(number_at(request + 1), request[5]);
     else
         serve(request + 1);
     uint32_t answered = (uint32_t)answer_length;

@@ -111,15 +111,15 @@ class Bench:
         compare(self.driver, b"I" + image, expected, 3)
         self.images[refusal] += 1
         if refusal == 0:
-            self.save(VALVE_UNIT, IMAGE_BYTES + self.rng.randrange(9), image)
+            self.save(IMAGE_BYTES + self.rng.randrange(9), image)
 
-    def save(self, words, room, image=None):
-        """valve_save of the first words; the image is that of the unit's words where none is given."""
-        image = image or image_of(images_model.configuration_in(self.words[: 4 * words]))
+    def save(self, room, image=None):
+        """valve_save; the image is that of the unit's words where none is given."""
+        image = image or image_of(images_model.configuration_in(self.words))
         filler = self.rng.randrange(256)
         refusal, written = (0, image) if room >= IMAGE_BYTES else (8, b"")
         expected = struct.pack("<ii", -refusal, 0) + written + bytes((filler,)) * (room - len(written))
-        compare(self.driver, b"S" + struct.pack("<IIB", words, room, filler), expected, 2)
+        compare(self.driver, b"S" + struct.pack("<IB", room, filler), expected, 2)
         self.saves[refusal] += 1
 
     def serve(self, dictionary, frame):
@@ -138,17 +138,15 @@ def compare_reading(bench, seed):
 
 
 ROOMS = (0, 1, 4, 5206, IMAGE_BYTES, 5208, 6000)
-WORDS = (0, 1, 300, 610, 611, 612, VALVE_UNIT)
 
 
 def compare_saving(bench):
-    """Every room with every number of words: words of a configuration, and any words at all."""
+    """Every room, several times: words of a configuration, and any words at all."""
     for anything in (False, True):
-        for words in WORDS:
-            for room in ROOMS:
-                configuration = images_cases.some_configuration(bench.rng)
-                bench.set_unit(b"" if anything else images_model.words_of(configuration))
-                bench.save(words, room)
+        for room in 7 * ROOMS:
+            configuration = images_cases.some_configuration(bench.rng)
+            bench.set_unit(b"" if anything else images_model.words_of(configuration))
+            bench.save(room)
 
 
 def write_frame(rng, entry):
@@ -178,7 +176,7 @@ def compare_with_frames(bench):
     for _ in range(600):
         bench.serve(names, write_frame(bench.rng, bench.rng.choice(names.configuration)))
     written = image_of([images_model.data_of(entry, entry.value) for entry in names.configuration])
-    bench.save(VALVE_UNIT, IMAGE_BYTES, written)
+    bench.save(IMAGE_BYTES, written)
     bench.read(written, 0)
 
 

@@ -123,6 +123,5 @@ def words_of(configuration):
 
 
 def configuration_in(words):
-    """What the words hold: the low bytes of each, as many as its entry has; a word that is not there is 0."""
-    words = words.ljust(4 * len(ENTRIES), b"\0")
+    """What the words hold: the low bytes of each, as many as its entry has."""
     return [words[4 * place : 4 * place + entry.type.size] for place, entry in enumerate(ENTRIES)]

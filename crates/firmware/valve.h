@@ -8,10 +8,14 @@
  *     valve_tick(unit, samples);                                      every millisecond
  *     if (valve_serve(unit, frame, 8, reply, 8) == 8) send(reply);    for each SDO request
  *
- * What each call does is proved for any words in the array, any frame and any samples. A call never writes outside the arrays that
- * are lent to it, never reads past the lengths given, never allocates, never waits, never fails, and always returns. It may be called
- * from an interrupt; two calls on the same unit must not overlap in time. The arrays lent to one call must not overlap each other.
- * Pointers are not NULL, also where a length is 0, and a length is that of the array behind the pointer.
+ *     static uint8_t image[VALVE_IMAGE];
+ *     valve_save(unit, image, VALVE_IMAGE);                           the configuration as bytes to keep
+ *     if (valve_load(unit, image, VALVE_IMAGE) != 0) complain();      and back, into this unit or another
+ *
+ * What each call does is proved for any words in the array, any frame, any samples and any image. A call never writes outside the
+ * arrays that are lent to it, never reads past the lengths given, never allocates, never waits, never fails, and always returns. It
+ * may be called from an interrupt; two calls on the same unit must not overlap in time. The arrays lent to one call must not overlap
+ * each other. Pointers are not NULL, also where a length is 0, and a length is that of the array behind the pointer.
  */
 #ifndef VALVE_H
 #define VALVE_H
@@ -37,6 +41,33 @@ int32_t valve_serve(uint32_t *unit, const uint8_t *frame, size_t frame_length, u
 /* One tick of a millisecond on four samples, those of inputs 1 to 4. Afterwards the commands are 7330h:1-4 and the error register is
  * 1001h, to be read by valve_serve. */
 void valve_tick(uint32_t *unit, const int16_t *samples);
+
+/* How many bytes an image has. An image is a configuration: the count 611 (u32), then for each of the 611 entries, ascending by index
+ * then sub, a record: index (u16), sub (u8), the data's size (u32), data. Numbers have their low byte first. */
+#define VALVE_IMAGE 5207
+
+/* The three functions below return 0, or the number of a refusal, which is below zero. A refusal writes nothing. Bytes are judged
+ * record by record, and the first record with a fault decides; then come bytes left over, and the chains at the very end. */
+#define VALVE_ENDED_EARLY (-1)  /* the image ends before the count, a record's head of 7 bytes, or a record's data is complete */
+#define VALVE_WRONG_COUNT (-2)  /* the count is not 611 */
+#define VALVE_NOT_NEXT (-3)     /* the index or sub is not that of the entry which comes next */
+#define VALVE_WRONG_SIZE (-4)   /* the size is not that of the entry's type */
+#define VALVE_OUT_OF_RANGE (-5) /* the value is outside its entry's own range, or a REAL32 that is not finite */
+#define VALVE_OUT_OF_ORDER (-6) /* each value is in range, but two are not in order, as a minimum above its maximum */
+#define VALVE_LEFT_OVER (-7)    /* there are bytes behind the last record */
+#define VALVE_NO_ROOM (-8)      /* valve_save alone: image_length is under VALVE_IMAGE */
+
+/* Writes the unit's configuration as the first VALVE_IMAGE bytes of image; bytes behind them stay. Returns 0, or VALVE_NO_ROOM. The
+ * words are written as they are, none is judged. */
+int32_t valve_save(const uint32_t *unit, uint8_t *image, size_t image_length);
+
+/* Whether the image_length bytes are a good image: 0, or VALVE_ENDED_EARLY to VALVE_LEFT_OVER. */
+int32_t valve_check(const uint8_t *image, size_t image_length);
+
+/* Makes the image's configuration the unit's if valve_check would return 0, and returns what it would return. All else in the unit
+ * stays as it is: the EC values, and what ticks published and remember. So a fresh unit with that configuration is valve_start, then
+ * valve_load. */
+int32_t valve_load(uint32_t *unit, const uint8_t *image, size_t image_length);
 
 #ifdef __cplusplus
 }

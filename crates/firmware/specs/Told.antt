@@ -1,0 +1,31 @@
+-- What `valve_save`, `valve_check` and `valve_load` leave: 0 or the refusal's number below zero, and every lent word and byte.
+-- Assumes nothing.
+use Prim.Native.Nat.{ℕ}
+use mathlib.Core.Path.{_≡_}
+use mathlib.Core.List.{List, _++_}
+use lib.Dec.{ltb}
+use lib.IntN.{ℤ, pos, negℤ}
+use lib.ListN.{length, drop}
+use Rattle.numbers.specs.Choice.{first}
+use Rattle.records.specs.Layout.{image-of}
+use Rattle.records.specs.Walk.{outcome-number}
+use Rattle.records.specs.declared.types.Outcome.{Outcome}
+use Rattle.records.specs.declared.types.Outcome.the-variants.{Good, Refused}
+use Rattle.records.specs.declared.types.Refusal.the-variants.{NoRoom}
+use Rattle.writing.specs.Written.{image-size}
+use Rattle.reading.specs.Reading.{reading}
+use Rattle.image.specs.Loaded.{loaded}
+
+-- 0, or the paper's number of the refusal, below zero
+unfoldable pub told : Outcome → ℤ
+told r = negℤ (pos (outcome-number r))
+
+-- as `Written`, with the number in the outcome's place
+pub record ToldSaved (unit image image′ : List ℕ) (r : ℤ) : Type 0 where
+  pub answered : r ≡ told (first (ltb (length image) image-size) (Refused NoRoom) Good)
+  pub bytes : image′ ≡ first (ltb (length image) image-size) image (image-of unit ++ drop image-size image)
+
+-- as `Loaded`, the same way
+pub record ToldLoaded (unit image unit′ : List ℕ) (r : ℤ) : Type 0 where
+  pub answered : r ≡ told (reading image)
+  pub state : unit′ ≡ loaded image unit (reading image)
