@@ -11,7 +11,6 @@ use super::limits::low_of;
 use super::types::Verdict;
 use dictionary::types::Kind;
 use numbers::signed::signed;
-use roles::telling::REAL;
 use roles::telling::WHOLE;
 use roles::telling::role_of;
 use roles::types::Link;
@@ -56,10 +55,6 @@ fn judge_range(role: u8, word: u32) -> Verdict
     // the whole range of INTEGER16
     if WHOLE <= role {
         return Verdict::Good;
-    }
-    // most entries are bytes, and an image holds hundreds of them
-    if role < REAL {
-        return judge_number(number(Kind::Unsigned8, word), low_of(role), high_of(role));
     }
     let kind = kind_of(role);
     if is_finite(kind, word) {

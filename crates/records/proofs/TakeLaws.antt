@@ -1,9 +1,9 @@
 -- One record, part by part and test by test.
 -- Assumes nothing.
 use mathlib.Core.Path.{_≡_, refl, sym, ap, _∙_}
-use mathlib.Core.Bool.{Bool, true, false, _||_}
+use mathlib.Core.Bool.{Bool, true, false, not, _||_}
 use mathlib.Core.List.{List, [], _∷_}
-use Prim.Native.Nat.{ℕ, zero, suc, _+_, _<_, _≤_}
+use Prim.Native.Nat.{ℕ, zero, suc, _+_, _%_, _<_, _≤_, zero-le}
 use native.Mathlib.Omega.{arith}
 use lib.Dec.{eqb, ltb}
 use lib.ListN.{length, getD, take}
@@ -11,11 +11,16 @@ use borrow.Author.Tests.{lt-ltb, le-ltb, eq-eqb, ne-eqb}
 use Rattle.little.specs.Little.{little}
 use Rattle.little.proofs.Parts.{placed, part}
 use Rattle.numbers.specs.Choice.{first}
-use Rattle.dictionary.specs.Rows.{width}
+use Rattle.dictionary.specs.Rows.{width, u8}
+use Rattle.dictionary.specs.declared.types.Range.{Range}
+use Rattle.dictionary.proofs.Tabulate.{tabulate, agree}
 use Rattle.dictionary.specs.declared.types.Kind.{Kind}
 use Rattle.dictionary.specs.declared.types.Kind.the-variants.{Unsigned8, Integer16, Unsigned16, Real32}
-use Rattle.entries.specs.Judge.{in-range, is-good}
-use Rattle.roles.specs.Roles.{ranged}
+use Rattle.numbers.specs.Order.{below}
+use Rattle.entries.specs.Judge.{number-of, finite, within, in-range, is-good}
+use Rattle.entries.specs.declared.types.Verdict.the-variants.{Good, Above, Below}
+use Rattle.entries.proofs.KeyLaws.{whole-good}
+use Rattle.roles.specs.Roles.{ranged, ranges, chosen}
 use Rattle.records.specs.Layout.{Listed, size}
 use Rattle.records.specs.Rows.{role-at, entry-at}
 use Rattle.records.specs.Walk.{index-in, sub-in, size-in, data-in, data-there, fits, valued, sized, decoded}
@@ -87,6 +92,32 @@ module _ (row sub : ℕ) {role : ℕ} (q : role ≡ role-at row sub) where
   pub same-fits : (word : ℕ) → is-good (in-range (ranged role) word) ≡ fits (entry-at row sub) word
   unfolding fits entry-at
   same-fits word = ap (λ (r : ℕ). is-good (in-range (ranged r) word)) q
+
+-- up to the source's role, a role's number is the greatest value of its byte
+small-ranges : tabulate 7 0 ranged ≡ tabulate 7 0 (λ role. u8 0 role 0 .range)
+unfolding tabulate ranged ranges chosen first
+small-ranges = refl
+
+module _ {role : ℕ} (small : role < 7) where
+  small-range : ranged role ≡ u8 0 role 0 .range
+  small-range = agree 7 ranged (λ r. u8 0 r 0 .range) (u8 0 0 0 .range) small-ranges role small
+
+  pub small-size : 1 ≡ width (ranged role .kind)
+  unfolding width
+  small-size = ap (λ (r : Range). width (r .kind)) (sym small-range)
+
+  pub small-fits : (word : ℕ) → is-good (in-range (ranged role) word) ≡ not (ltb role (word % 0x100))
+  unfolding is-good in-range finite within number-of below first
+  small-fits word = rw small-range (go (ltb role (word % 0x100)))
+    where
+      go : (b : Bool) → is-good (first b Above (first (ltb (word % 0x100) 0) Below Good)) ≡ not b
+      go true = refl
+      go false = rw (le-ltb (word % 0x100) 0 zero-le)
+
+-- from the whole number's role on, every word fits
+pub whole-fits : {role : ℕ} (word : ℕ) → 17 ≤ role → is-good (in-range (ranged role) word) ≡ true
+unfolding is-good
+whole-fits word h = ap is-good (sym (whole-good word h))
 
 -- ---- the tests in their order
 

@@ -1,6 +1,6 @@
 // One record, and the records of one row.
 ghost use mathlib.Core.Path.{_≡_};
-ghost use Prim.Native.Nat.{_≤_};
+ghost use Prim.Native.Nat.{_≤_, _<_};
 ghost use lib.ListN.{length};
 ghost use Rattle.dictionary.specs.Rows.{width};
 ghost use Rattle.roles.specs.Roles.{ranged};
@@ -14,7 +14,7 @@ use super::types::Refusal;
 use super::types::Walked;
 use entries::judging::fits;
 use entries::ranges::width_of;
-use roles::telling::REAL;
+use roles::telling::SOURCE;
 use roles::telling::WHOLE;
 
 // A record of a role and its size.
@@ -34,17 +34,48 @@ fn take_sized(rest: &[u8], row: u32, sub: u8, role: u8, size: u8) -> Walked
     Walked::Refused(Refusal::OutOfRange)
 }
 
-// A record whose name is right. Bytes and whole numbers, nearly all there is, go with a size that is known.
+// A byte whose greatest value is its role's number, as of more entries than not.
+fn take_small(rest: &[u8], row: u32, sub: u8, role: u8) -> Walked
+    requires { ⌜ (7 ≤ length (now rest)) × (role ≡ role-at row sub) × (role < 7) ⌝ }
+    ensures { λ r. ⌜ r ≡ sized (entry-at row sub) (now (rest .entry)) ⌝ }
+{
+    if size_in(rest) != 1 {
+        return Walked::Refused(Refusal::WrongSize);
+    }
+    if rest.len() < 8 {
+        return Walked::Refused(Refusal::EndedEarly);
+    }
+    if (role as u32) < data_in(rest, 1) % 0x100 {
+        return Walked::Refused(Refusal::OutOfRange);
+    }
+    Walked::Taken(8)
+}
+
+// An INTEGER16 with its whole range.
+fn take_whole(rest: &[u8], row: u32, sub: u8, role: u8) -> Walked
+    requires { ⌜ (7 ≤ length (now rest)) × (role ≡ role-at row sub) × (17 ≤ role) ⌝ }
+    ensures { λ r. ⌜ r ≡ sized (entry-at row sub) (now (rest .entry)) ⌝ }
+{
+    if size_in(rest) != 2 {
+        return Walked::Refused(Refusal::WrongSize);
+    }
+    if rest.len() < 9 {
+        return Walked::Refused(Refusal::EndedEarly);
+    }
+    Walked::Taken(9)
+}
+
+// A record whose name is right.
 fn take_named(rest: &[u8], row: u32, sub: u8) -> Walked
     requires { ⌜ 7 ≤ length (now rest) ⌝ }
     ensures { λ r. ⌜ r ≡ sized (entry-at row sub) (now (rest .entry)) ⌝ }
 {
     let role = role_at(row, sub);
-    if role < REAL {
-        return take_sized(rest, row, sub, role, 1);
+    if role <= SOURCE {
+        return take_small(rest, row, sub, role);
     }
     if WHOLE <= role {
-        return take_sized(rest, row, sub, role, 2);
+        return take_whole(rest, row, sub, role);
     }
     take_sized(rest, row, sub, role, width_of(role))
 }
