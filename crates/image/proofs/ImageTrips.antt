@@ -24,13 +24,13 @@ use Rattle.entries.specs.declared.types.Verdict.the-variants.{Good, NotFinite, 
 use Rattle.records.specs.Layout.{Listed, listed, size, records, image-of}
 use Rattle.records.specs.Walk.{data-in, fits, values}
 use Rattle.records.proofs.RightLaws.{Right, All-right, Whole}
-use Rattle.records.proofs.WalkLaws.{total}
+use Rattle.records.proofs.SizeLaws.{listed-extent, image-length}
 use Rattle.reading.specs.Reading.{in-order, configuration-in}
 use Rattle.reading.proofs.Acceptance.{Accepted}
-use Rattle.reading.proofs.PlaceLaws.{entry, offset, counted, summed, value-at}
+use Rattle.reading.proofs.PlaceLaws.{entry, offset, counted, value-at}
 use Rattle.image.proofs.ChainTrips.{order-linked, linked-order, front-order}
 use Rattle.image.proofs.LoadLaws.{values-length}
-use Rattle.image.proofs.RecordTrips.{Fit, all-fit, records-right, values-back, records-back, records-length, records-front, bytes-back}
+use Rattle.image.proofs.RecordTrips.{Fit, all-fit, records-right, values-back, records-back, records-front, bytes-back}
 
 -- ---- the entry of a slot
 
@@ -111,7 +111,7 @@ module _ (unit : List ℕ) (valid : Valid unit) (long : configured ≤ length un
       let size = length-append (bytes 4 configured) (records listed unit) in
       let head = bytes-length 4 configured in
       record {
-        long = omega (arith, records-length listed unit, summed);
+        long = image-length unit;
         walk = whole-image;
         order = ap in-order (configuration-back ∙ ap (λ (n : ℕ). take n unit) many) ∙ front-order unit ∙ linked-order unit (valid .linked);
       }
@@ -127,7 +127,7 @@ module _ (image : List ℕ) (a : Accepted image) (b : Bytes image) where
       let front : bytes 4 configured ≡ take 4 image
       = ap (bytes 4) (sym (a .walk .counted)) ∙ bytes-back 4 (take 4 image) (bytes-to 4 image b) (length-take-le 4 image (omega arith)) in
       let rest = records-front listed (values listed (drop 4 image)) more (omega (arith, values-length listed (drop 4 image)))
-      ∙ records-back listed (drop 4 image) (a .walk .rights) (bytes-from 4 image b) (omega (arith, summed)) in
+      ∙ records-back listed (drop 4 image) (a .walk .rights) (bytes-from 4 image b) (omega (arith, listed-extent)) in
       rw (front, rest) (take-append-drop 4 image)
 
 right-at : (es : List Listed) (rest : List ℕ) → All-right es rest → (k : ℕ) → k < length es → Right (entry es k) (drop (offset es k) rest)

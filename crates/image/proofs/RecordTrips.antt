@@ -12,11 +12,10 @@ use Rattle.little.specs.Little.{little, bytes, Bytes}
 use Rattle.little.proofs.ByteLaws.{bytes-length, read-back, given-back, bytes-from, bytes-to}
 use Rattle.little.proofs.Parts.{placed, part}
 use Rattle.dictionary.specs.Rows.{width}
-use Rattle.records.specs.Layout.{Listed, size, record-of, records}
+use Rattle.records.specs.Layout.{Listed, size, extent, record-of, records}
 use Rattle.records.specs.Walk.{index-in, sub-in, size-in, data-in, fits, values}
 use Rattle.records.proofs.RightLaws.{Right, All-right}
 use Rattle.records.proofs.TakeLaws.{at-most-four}
-use Rattle.records.proofs.WalkLaws.{total}
 use Rattle.reading.proofs.PlaceLaws.{entry}
 
 -- a word that an entry can hold, and a name that its record can hold
@@ -130,8 +129,8 @@ values-back (e ∷ es) (w ∷ ws) rest a h =
     rw (append-assoc (record-of e w) (records es ws) rest, data-back e w (records es ws ++ rest) (a .0), past e w (records es ws ++ rest))
     (ap (λ (l : List ℕ). w ∷ l) (values-back es ws rest (a .1) (le-of-suc-le-suc h)))
 
-pub records-back : (es : List Listed) (rest : List ℕ) → All-right es rest → Bytes rest → length rest ≡ total es → records es (values es rest) ≡ rest
-unfolding records values All-right total
+pub records-back : (es : List Listed) (rest : List ℕ) → All-right es rest → Bytes rest → length rest ≡ extent es → records es (values es rest) ≡ rest
+unfolding records values All-right extent
 records-back [] [] a b h = refl
 records-back [] (x ∷ rest) a b h = absurd (omega arith)
 records-back (e ∷ es) rest a b h =
@@ -139,16 +138,6 @@ records-back (e ∷ es) rest a b h =
     let front = record-back e rest (a .0) b in
     let more = records-back es (drop (7 + size e) rest) (a .1) (bytes-from (7 + size e) rest b) (omega arith) in
     rw (front, more) (take-append-drop (7 + size e) rest)
-
-record-length : (e : Listed) (w : ℕ) → length (record-of e w) ≡ 7 + size e
-unfolding record-of bytes
-record-length e w = let n = bytes-length (size e) w in omega arith
-
-pub records-length : (es : List Listed) (ws : List ℕ) → length (records es ws) ≡ total es
-unfolding records total
-records-length [] ws = refl
-records-length (e ∷ es) [] = let n = records-length es [] in let r = record-length e 0 in length-append (record-of e 0) (records es []) ∙ rw (r, n)
-records-length (e ∷ es) (w ∷ ws) = let n = records-length es ws in let r = record-length e w in length-append (record-of e w) (records es ws) ∙ rw (r, n)
 
 -- words behind those of the entries do not matter
 pub records-front : (es : List Listed) (ws more : List ℕ) → length es ≤ length ws → records es (ws ++ more) ≡ records es ws

@@ -21,7 +21,7 @@ use Rattle.records.specs.declared.types.Refusal.the-variants.{NoRoom}
 use Rattle.reading.specs.Reading.{reading, configuration-in}
 use Rattle.reading.proofs.Acceptance.{accepted, accepts, not-good}
 use Rattle.writing.specs.Written.{Written, image-size}
-use Rattle.writing.proofs.ImageSize.{image-length}
+use Rattle.records.proofs.SizeLaws.{image-length}
 use Rattle.image.specs.Loaded.{Loaded, loaded}
 use Rattle.image.proofs.ImageTrips.{configuration-back, image-accepted, bytes-again, configuration-valid}
 use Rattle.promises.specs.Running.{run}

@@ -9,7 +9,7 @@ use lib.Dec.{ltb}
 use lib.ListN.{length}
 use borrow.Author.Tests.{ltb-false, le-ltb}
 use Rattle.numbers.specs.Choice.{first}
-use Rattle.records.specs.Layout.{listed}
+use Rattle.records.specs.Layout.{listed, extent}
 use Rattle.records.specs.Walk.{taken-in}
 use Rattle.records.specs.declared.types.Refusal.{Refusal}
 use Rattle.records.specs.declared.types.Refusal.the-variants.{OutOfOrder, LeftOver}
@@ -18,9 +18,9 @@ use Rattle.records.specs.declared.types.Walked.the-variants as walked
 use Rattle.records.specs.declared.types.Outcome.{Outcome}
 use Rattle.records.specs.declared.types.Outcome.the-variants.{Good, Refused}
 use Rattle.records.proofs.RightLaws.{Whole, whole, whole-taken-in}
-use Rattle.records.proofs.WalkLaws.{total}
+use Rattle.records.proofs.SizeLaws.{listed-extent}
 use Rattle.reading.specs.Reading.{in-order, configuration-in, finished, reading}
-use Rattle.reading.proofs.PlaceLaws.{exact, summed}
+use Rattle.reading.proofs.PlaceLaws.{exact}
 
 pub record Accepted (image : List ℕ) : Type 0 where
   pub long : length image ≡ 5207
@@ -48,4 +48,4 @@ pub accepts : (image : List ℕ) → Accepted image → reading image ≡ Good
 unfolding reading finished first
 accepts image a =
     let long = a .long in
-    rw (whole-taken-in image (a .walk), le-ltb (4 + total listed) (length image) (omega (arith, summed)), a .order)
+    rw (whole-taken-in image (a .walk), le-ltb (4 + extent listed) (length image) (omega (arith, listed-extent)), a .order)

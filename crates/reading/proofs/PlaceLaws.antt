@@ -19,7 +19,8 @@ use Rattle.roles.proofs.RoleLaws.{run, runs, chains-run}
 use Rattle.entries.specs.Judge.{held}
 use Rattle.records.specs.Layout.{Listed, listed, size}
 use Rattle.records.specs.Walk.{data-in, values, taken-in}
-use Rattle.records.proofs.WalkLaws.{total, image-taken}
+use Rattle.records.proofs.SizeLaws.{listed-extent}
+use Rattle.records.proofs.WalkLaws.{image-taken}
 use Rattle.records.specs.declared.types.Refusal.the-variants.{OutOfOrder, LeftOver}
 use Rattle.records.specs.declared.types.Walked.{Walked}
 use Rattle.records.specs.declared.types.Walked.the-variants as walked
@@ -113,12 +114,8 @@ ordered-by-places image long pairs e =
 
 -- ---- an image whose records are good and that has nothing behind them
 
-pub summed : total listed ≡ 5203
-unfolding total listed size width
-summed = refl
-
 pub exact : (image : List ℕ) {n : ℕ} → taken-in image ≡ Taken n → length image ≤ n → length image ≡ 5207
-exact image t h = let all = image-taken image t in omega (arith, summed)
+exact image t h = let all = image-taken image t in omega (arith, listed-extent)
 
 module _ (image : List ℕ) (n : ℕ) {records : Walked} (r : records ≡ taken-in image) (taken : records ≡ Taken n) where
   pub more-behind : n < length image → Refused LeftOver ≡ reading image

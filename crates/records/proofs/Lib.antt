@@ -1,4 +1,5 @@
 pub mod FindLaws
 pub mod RightLaws
+pub mod SizeLaws
 pub mod TakeLaws
 pub mod WalkLaws

@@ -12,13 +12,13 @@ use borrow.Author.Tests.{ltb-false, le-ltb, eqb-true, eq-eqb}
 use Rattle.little.specs.Little.{little}
 use Rattle.numbers.specs.Choice.{first}
 use Rattle.dictionary.specs.Names.{configured}
-use Rattle.records.specs.Layout.{Listed, size, listed}
+use Rattle.records.specs.Layout.{Listed, size, listed, extent}
 use Rattle.records.specs.Walk.{index-in, sub-in, size-in, data-in, fits, valued, sized, decoded, behind, and-then, walked, taken-in}
 use Rattle.records.specs.declared.types.Refusal.{Refusal}
 use Rattle.records.specs.declared.types.Refusal.the-variants.{EndedEarly, WrongCount, NotNext, WrongSize, OutOfRange}
 use Rattle.records.specs.declared.types.Walked.{Walked}
 use Rattle.records.specs.declared.types.Walked.the-variants.{Taken, Refused}
-use Rattle.records.proofs.WalkLaws.{not-both, total, then-taken}
+use Rattle.records.proofs.WalkLaws.{not-both, then-taken}
 
 -- ---- one record
 
@@ -86,8 +86,8 @@ all-right (e ∷ es) rest {n} t = go (decoded e rest) refl (walked es (drop (7 +
     go (Taken m) p (Refused why) q t = absurd (not-both t)
     go (Taken m) p (Taken k) q t = (right e rest p, q k refl)
 
-pub all-taken : (es : List Listed) (rest : List ℕ) → All-right es rest → walked es rest ≡ Taken (total es)
-unfolding walked and-then behind All-right total
+pub all-taken : (es : List Listed) (rest : List ℕ) → All-right es rest → walked es rest ≡ Taken (extent es)
+unfolding walked and-then behind All-right extent
 all-taken [] rest a = refl
 all-taken (e ∷ es) rest a = rw (taken e rest (a .0), all-taken es (drop (7 + size e) rest) (a .1))
 
@@ -99,10 +99,10 @@ pub record Fault (es : List Listed) (rest : List ℕ) (why : Refusal) : Type 0 w
   pub after : List Listed
   pub split : es ≡ before ++ (at ∷ after)
   pub rights : All-right before rest
-  pub refused : decoded at (drop (total before) rest) ≡ Refused why
+  pub refused : decoded at (drop (extent before) rest) ≡ Refused why
 
 pub first-fault : (es : List Listed) (rest : List ℕ) {why : Refusal} → walked es rest ≡ Refused why → Fault es rest why
-unfolding walked and-then behind All-right total
+unfolding walked and-then behind All-right extent
 first-fault [] rest t = absurd (not-both (sym t))
 first-fault (e ∷ es) rest {why} t = go (decoded e rest) refl (walked es (drop (7 + size e) rest)) (λ other q. first-fault es (drop (7 + size e) rest) q) t
   where
@@ -118,7 +118,7 @@ first-fault (e ∷ es) rest {why} t = go (decoded e rest) refl (walked es (drop 
           after = later .after;
           split = ap (λ (l : List Listed). e ∷ l) (later .split);
           rights = (right e rest p, later .rights);
-          refused = ap (decoded (later .at)) (sym (drop-drop (total (later .before)) (7 + size e) rest)) ∙ later .refused;
+          refused = ap (decoded (later .at)) (sym (drop-drop (extent (later .before)) (7 + size e) rest)) ∙ later .refused;
         }
 
 pub fault-first : (es : List Listed) (rest : List ℕ) {why : Refusal} → Fault es rest why → walked es rest ≡ Refused why
@@ -150,7 +150,7 @@ module _ (image : List ℕ) where
       go false p true q (Taken m) a t =
           record { headed = ltb-false (length image) 4 p; counted = eqb-true (little (take 4 image)) configured q; rights = a m refl }
 
-  pub whole-taken-in : Whole image → taken-in image ≡ Taken (4 + total listed)
+  pub whole-taken-in : Whole image → taken-in image ≡ Taken (4 + extent listed)
   unfolding taken-in first behind
   whole-taken-in w =
       rw (le-ltb (length image) 4 (w .headed), eq-eqb (little (take 4 image)) configured (w .counted), all-taken listed (drop 4 image) (w .rights))

@@ -13,7 +13,7 @@ use borrow.Author.Tests.{lt-ltb, le-ltb, ltb-false, eq-eqb, ne-eqb}
 use Rattle.little.specs.Little.{little}
 use Rattle.numbers.specs.Choice.{first}
 use Rattle.dictionary.specs.Names.{configured}
-use Rattle.records.specs.Layout.{Listed, size, listed}
+use Rattle.records.specs.Layout.{Listed, size, listed, extent}
 use Rattle.records.specs.Rows.{row-from, row-of, entry-at, first-sub, last-sub}
 use Rattle.records.specs.Walk.{index-in, sub-in, size-in, data-in, fits, valued, sized, decoded, behind, and-then, walked, taken-in}
 use Rattle.records.specs.declared.types.Refusal.{Refusal}
@@ -97,17 +97,13 @@ then-refused (e ∷ xs) ys rest {why} t = go (decoded e rest) (walked xs (drop (
 
 -- ---- all records are taken whole
 
-unfoldable pub total : List Listed → ℕ
-total [] = 0
-total (e ∷ es) = 7 + size e + total es
-
-pub takes-all : (es : List Listed) (rest : List ℕ) {n : ℕ} → walked es rest ≡ Taken n → (n ≡ total es) × (n ≤ length rest)
-unfolding walked and-then behind total
+pub takes-all : (es : List Listed) (rest : List ℕ) {n : ℕ} → walked es rest ≡ Taken n → (n ≡ extent es) × (n ≤ length rest)
+unfolding walked and-then behind extent
 takes-all [] rest {n} t = let z : n ≡ 0 = cc in (z, omega arith)
 takes-all (e ∷ es) rest {n} t = go (decoded e rest) refl (walked es (drop (7 + size e) rest)) (λ k q. takes-all es (drop (7 + size e) rest) q) t
   where
-    go : (d : Walked) → decoded e rest ≡ d → (w : Walked) → ((k : ℕ) → w ≡ Taken k → (k ≡ total es) × (k ≤ length (drop (7 + size e) rest)))
-        → and-then d w ≡ Taken n → (n ≡ 7 + size e + total es) × (n ≤ length rest)
+    go : (d : Walked) → decoded e rest ≡ d → (w : Walked) → ((k : ℕ) → w ≡ Taken k → (k ≡ extent es) × (k ≤ length (drop (7 + size e) rest)))
+        → and-then d w ≡ Taken n → (n ≡ 7 + size e + extent es) × (n ≤ length rest)
     go (Refused why) p w q t = absurd (not-both t)
     go (Taken m) p (Refused why) q t = absurd (not-both t)
     go (Taken m) p (Taken k) q t =
@@ -248,12 +244,12 @@ module _ (image : List ℕ) where
           omega arith
 
 -- a whole image is taken to the end of its records
-pub image-taken : (image : List ℕ) {n : ℕ} → taken-in image ≡ Taken n → (n ≡ 4 + total listed) × (n ≤ length image)
+pub image-taken : (image : List ℕ) {n : ℕ} → taken-in image ≡ Taken n → (n ≡ 4 + extent listed) × (n ≤ length image)
 unfolding taken-in first behind
 image-taken image {n} t = go (ltb (length image) 4) refl (eqb (little (take 4 image)) configured) (walked listed (drop 4 image)) (λ m q. takes-all listed (drop 4 image) q) t
   where
-    go : (short : Bool) → ltb (length image) 4 ≡ short → (counted : Bool) (w : Walked) → ((m : ℕ) → w ≡ Taken m → (m ≡ total listed) × (m ≤ length (drop 4 image)))
-        → first short (Refused EndedEarly) (first (not counted) (Refused WrongCount) (behind 4 w)) ≡ Taken n → (n ≡ 4 + total listed) × (n ≤ length image)
+    go : (short : Bool) → ltb (length image) 4 ≡ short → (counted : Bool) (w : Walked) → ((m : ℕ) → w ≡ Taken m → (m ≡ extent listed) × (m ≤ length (drop 4 image)))
+        → first short (Refused EndedEarly) (first (not counted) (Refused WrongCount) (behind 4 w)) ≡ Taken n → (n ≡ 4 + extent listed) × (n ≤ length image)
     go true s counted w q t = absurd (not-both t)
     go false s false w q t = absurd (not-both t)
     go false s true (Refused why) q t = absurd (not-both t)

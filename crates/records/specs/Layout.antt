@@ -1,6 +1,6 @@
 -- The configuration image: "count u32, then per record index u16, sub u8, size u32, data; low byte first".
 -- Assumes nothing.
-use Prim.Native.Nat.{ℕ}
+use Prim.Native.Nat.{ℕ, _+_}
 use mathlib.Core.List.{List, [], _∷_, _++_, map}
 use lib.ListN.{take}
 use Rattle.little.specs.Little.{bytes}
@@ -22,6 +22,11 @@ listed = map (λ (e : Entry). record { index = e .index; sub = e .sub; range = e
 -- the bytes of an entry's data
 unfoldable pub size : Listed → ℕ
 size e = width (e .range .kind)
+
+-- the bytes of the records of some entries
+unfoldable pub extent : List Listed → ℕ
+extent [] = 0
+extent (e ∷ es) = 7 + size e + extent es
 
 -- the record of an entry that holds a word
 unfoldable pub record-of : Listed → ℕ → List ℕ

@@ -34,7 +34,7 @@ fn take_sized(rest: &[u8], row: u32, sub: u8, role: u8, size: u8) -> Walked
     Walked::Refused(Refusal::OutOfRange)
 }
 
-// A byte whose greatest value is its role's number, as of more entries than not.
+// A byte whose greatest value is its role's number, as two entries in five are.
 fn take_small(rest: &[u8], row: u32, sub: u8, role: u8) -> Walked
     requires { ⌜ (7 ≤ length (now rest)) × (role ≡ role-at row sub) × (role < 7) ⌝ }
     ensures { λ r. ⌜ r ≡ sized (entry-at row sub) (now (rest .entry)) ⌝ }

@@ -1,3 +1,2 @@
-pub mod ImageSize
 pub mod PlacingLaws
 pub mod WrittenLaws

@@ -9,10 +9,11 @@ use lib.ListN.{length, getD, set, drop, length-append, drop-of-length-le}
 use lib.Seq.{sets, length-sets, drop-nil, drop-drop, drop-cons, getD-drop}
 use Rattle.little.specs.Little.{bytes}
 use Rattle.little.proofs.ByteLaws.{bytes-length}
-use Rattle.records.specs.Layout.{Listed, size, record-of, records}
+use Rattle.records.specs.Layout.{Listed, size, record-of, records, extent}
+use Rattle.records.proofs.SizeLaws.{record-length, records-length}
 use Rattle.records.specs.Rows.{row-of, row-from, entry-at}
 use Rattle.writing.specs.declared.types.Front.{Front}
-use Rattle.writing.specs.Placing.{extent, Room, Placed}
+use Rattle.writing.specs.Placing.{Room, Placed}
 
 -- ---- bytes behind bytes
 
@@ -47,18 +48,6 @@ no-byte l number {place} {end} h =
     ap (λ (n : ℕ). sets l place (bytes n number)) none
 
 -- ---- records behind records
-
-pub record-length : (e : Listed) (word : ℕ) → length (record-of e word) ≡ 7 + size e
-unfolding record-of
-record-length e word = simp (length-append, bytes-length) (omega arith)
-
-pub records-length : (es : List Listed) (words : List ℕ) → length (records es words) ≡ extent es
-unfolding records extent
-records-length [] words = refl
-records-length (e ∷ es) [] =
-    length-append (record-of e 0) (records es []) ∙ (let more = records-length es [] in let one = record-length e 0 in omega arith)
-records-length (e ∷ es) (w ∷ words) =
-    length-append (record-of e w) (records es words) ∙ (let more = records-length es words in let one = record-length e w in omega arith)
 
 extent-append : (xs ys : List Listed) → extent (xs ++ ys) ≡ extent xs + extent ys
 unfolding extent

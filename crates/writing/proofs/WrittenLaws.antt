@@ -11,14 +11,14 @@ use Rattle.little.specs.Little.{bytes}
 use Rattle.little.proofs.ByteLaws.{bytes-length}
 use Rattle.numbers.specs.Choice.{first}
 use Rattle.dictionary.specs.Names.{configured}
-use Rattle.records.specs.Layout.{Listed, listed, records, image-of}
+use Rattle.records.specs.Layout.{Listed, listed, records, image-of, extent}
+use Rattle.records.proofs.SizeLaws.{listed-extent, image-length}
 use Rattle.records.specs.declared.types.Outcome.the-variants.{Good, Refused}
 use Rattle.records.specs.declared.types.Refusal.the-variants.{NoRoom}
 use Rattle.writing.specs.declared.types.Front.{Front}
-use Rattle.writing.specs.Placing.{extent, Room, Placed}
+use Rattle.writing.specs.Placing.{Room, Placed}
 use Rattle.writing.specs.Written.{image-size, Written}
 use Rattle.writing.proofs.PlacingLaws.{put-behind}
-use Rattle.writing.proofs.ImageSize.{listed-extent, image-length}
 
 many : 611 ≡ configured
 unfolding configured

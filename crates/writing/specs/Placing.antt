@@ -1,17 +1,12 @@
 -- The records of some entries written from a place on, as the private helpers do it. No public contract cites this.
 -- Assumes nothing.
 use mathlib.Core.Path.{_≡_}
-use mathlib.Core.List.{List, [], _∷_}
+use mathlib.Core.List.{List}
 use Prim.Native.Nat.{ℕ, _+_, _≤_}
 use lib.ListN.{length, drop}
 use lib.Seq.{sets}
-use Rattle.records.specs.Layout.{Listed, size, records}
+use Rattle.records.specs.Layout.{Listed, extent, records}
 use Rattle.writing.specs.declared.types.Front.{Front}
-
--- the bytes of the records of some entries
-unfoldable pub extent : List Listed → ℕ
-extent [] = 0
-extent (e ∷ es) = 7 + size e + extent es
 
 -- the records fit behind the front; there are no more slots than bytes before it
 pub record Room (es : List Listed) (from : Front) (image : List ℕ) : Type 0 where

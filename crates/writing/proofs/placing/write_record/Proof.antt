@@ -2,7 +2,7 @@
 -- Assumes nothing.
 use native.Mathlib.Omega.{arith}
 use Rattle.records.proofs.TakeLaws.{same-size}
-use Rattle.writing.specs.Placing.{extent}
+use Rattle.records.specs.Layout.{extent}
 use Rattle.writing.proofs.PlacingLaws.{record-placed}
 use borrow.Author.Needs.{needs}
 use Rattle.writing.proofs.placing.write_record.Statement.{statement}
