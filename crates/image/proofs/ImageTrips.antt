@@ -21,13 +21,13 @@ use Rattle.entries.specs.Judge.{in-range, is-good}
 use Rattle.entries.specs.Valid.{Valid}
 use Rattle.entries.specs.declared.types.Verdict.{Verdict}
 use Rattle.entries.specs.declared.types.Verdict.the-variants.{Good, NotFinite, Above, Below, ChainUp, ChainDown}
-use Rattle.records.specs.Layout.{Listed, listed, size, records, image-of}
+use Rattle.records.specs.Layout.{Listed, listed, size, records, image-of, entry, offset}
 use Rattle.records.specs.Walk.{data-in, fits, values}
 use Rattle.records.proofs.RightLaws.{Right, All-right, Whole}
 use Rattle.records.proofs.SizeLaws.{listed-extent, image-length}
 use Rattle.reading.specs.Reading.{in-order, configuration-in}
 use Rattle.reading.proofs.Acceptance.{Accepted}
-use Rattle.reading.proofs.PlaceLaws.{entry, offset, counted, value-at}
+use Rattle.reading.proofs.PlaceLaws.{counted, value-at}
 use Rattle.image.proofs.ChainTrips.{order-linked, linked-order, front-order}
 use Rattle.image.proofs.LoadLaws.{values-length}
 use Rattle.image.proofs.RecordTrips.{Fit, all-fit, records-right, values-back, records-back, records-front, bytes-back}

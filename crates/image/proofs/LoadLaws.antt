@@ -11,14 +11,14 @@ use Rattle.little.specs.Little.{little}
 use Rattle.little.proofs.Parts.{placed, part}
 use Rattle.dictionary.specs.Rows.{width}
 use Rattle.dictionary.specs.Names.{configured}
-use Rattle.records.specs.Layout.{Listed, size, listed}
+use Rattle.records.specs.Layout.{Listed, size, listed, nothing}
 use Rattle.records.specs.Walk.{size-in, data-in, data-there, values}
 use Rattle.records.proofs.RightLaws.{Right, All-right, Whole}
 use Rattle.records.proofs.TakeLaws.{is-there, at-most-four}
 use Rattle.records.proofs.WalkLaws.{onward}
 use Rattle.reading.specs.Reading.{configuration-in}
 use Rattle.reading.proofs.Acceptance.{Accepted}
-use Rattle.reading.proofs.PlaceLaws.{nothing, counted}
+use Rattle.reading.proofs.PlaceLaws.{counted}
 
 -- ---- one store after the other
 

@@ -12,11 +12,10 @@ use Rattle.little.specs.Little.{little, bytes, Bytes}
 use Rattle.little.proofs.ByteLaws.{bytes-length, read-back, given-back, bytes-from, bytes-to}
 use Rattle.little.proofs.Parts.{placed, part}
 use Rattle.dictionary.specs.Rows.{width}
-use Rattle.records.specs.Layout.{Listed, size, extent, record-of, records}
+use Rattle.records.specs.Layout.{Listed, size, extent, record-of, records, entry}
 use Rattle.records.specs.Walk.{index-in, sub-in, size-in, data-in, fits, values}
 use Rattle.records.proofs.RightLaws.{Right, All-right}
 use Rattle.records.proofs.TakeLaws.{at-most-four}
-use Rattle.reading.proofs.PlaceLaws.{entry}
 
 -- a word that an entry can hold, and a name that its record can hold
 pub record Fit (e : Listed) (word : ℕ) : Type 0 where

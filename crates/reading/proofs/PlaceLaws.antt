@@ -13,11 +13,11 @@ use borrow.Author.Tests.{lt-ltb, le-ltb, ltb-true, eqb-true}
 use Rattle.little.specs.Little.{little}
 use Rattle.numbers.specs.Choice.{first, every}
 use Rattle.numbers.specs.Signed.{signed16}
-use Rattle.dictionary.specs.Rows.{width, u8}
+use Rattle.dictionary.specs.Rows.{width}
 use Rattle.roles.specs.Chains.{Neighbours, chains}
 use Rattle.roles.proofs.RoleLaws.{run, runs, chains-run}
 use Rattle.entries.specs.Judge.{held}
-use Rattle.records.specs.Layout.{Listed, listed, size}
+use Rattle.records.specs.Layout.{Listed, listed, size, entry, offset}
 use Rattle.records.specs.Walk.{data-in, values, taken-in}
 use Rattle.records.proofs.SizeLaws.{listed-extent}
 use Rattle.records.proofs.WalkLaws.{image-taken}
@@ -29,21 +29,6 @@ use Rattle.records.specs.declared.types.Refusal.{Refusal}
 use Rattle.records.specs.declared.types.Outcome.the-variants.{Good, Refused}
 use Rattle.reading.specs.Places.{Pair, number-at, rising, rises, run-from, run-of}
 use Rattle.reading.specs.Reading.{in-place, in-order, configuration-in, finished, reading}
-
--- an entry that is not there
-abbrev pub nothing : Listed
-nothing = record { index = 0; sub = 0; range = u8 0 0 0 .range }
-
--- the entry at a slot, and the bytes of the records before it
-unfoldable pub entry : List Listed → ℕ → Listed
-entry [] slot = nothing
-entry (e ∷ es) zero = e
-entry (e ∷ es) (suc slot) = entry es slot
-
-unfoldable pub offset : List Listed → ℕ → ℕ
-offset [] slot = 0
-offset (e ∷ es) zero = 0
-offset (e ∷ es) (suc slot) = 7 + size e + offset es slot
 
 pub value-at : (es : List Listed) (rest : List ℕ) (slot : ℕ) → slot < length es
     → getD (values es rest) slot 0 ≡ data-in (size (entry es slot)) (drop (offset es slot) rest)

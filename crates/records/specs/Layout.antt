@@ -1,11 +1,11 @@
 -- The configuration image: "count u32, then per record index u16, sub u8, size u32, data; low byte first".
 -- Assumes nothing.
-use Prim.Native.Nat.{ℕ, _+_}
+use Prim.Native.Nat.{ℕ, zero, suc, _+_}
 use mathlib.Core.List.{List, [], _∷_, _++_, map}
-use lib.ListN.{take}
+use lib.ListN.{take, drop}
 use Rattle.little.specs.Little.{bytes}
 use Rattle.dictionary.specs.Names.{Entry, entries, configured}
-use Rattle.dictionary.specs.Rows.{width}
+use Rattle.dictionary.specs.Rows.{width, u8}
 use Rattle.dictionary.specs.declared.types.Range.{Range}
 
 -- an entry as an image lists it
@@ -27,6 +27,25 @@ size e = width (e .range .kind)
 unfoldable pub extent : List Listed → ℕ
 extent [] = 0
 extent (e ∷ es) = 7 + size e + extent es
+
+-- an entry that is not there
+abbrev pub nothing : Listed
+nothing = record { index = 0; sub = 0; range = u8 0 0 0 .range }
+
+-- the entry of a slot, and the bytes of the records before it
+unfoldable pub entry : List Listed → ℕ → Listed
+entry [] slot = nothing
+entry (e ∷ es) zero = e
+entry (e ∷ es) (suc slot) = entry es slot
+
+unfoldable pub offset : List Listed → ℕ → ℕ
+offset [] slot = 0
+offset (e ∷ es) zero = 0
+offset (e ∷ es) (suc slot) = 7 + size e + offset es slot
+
+-- the record of a slot, as it stands in an image
+unfoldable pub record-in : List ℕ → ℕ → List ℕ
+record-in image slot = take (7 + size (entry listed slot)) (drop (4 + offset listed slot) image)
 
 -- the record of an entry that holds a word
 unfoldable pub record-of : Listed → ℕ → List ℕ

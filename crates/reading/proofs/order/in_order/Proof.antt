@@ -5,9 +5,9 @@ use borrow.Author.Needs.{needs}
 use mathlib.Core.List.{flatMap}
 use Rattle.roles.proofs.RoleLaws.{run, runs}
 use Rattle.dictionary.specs.Rows.{width}
-use Rattle.records.specs.Layout.{listed, size}
+use Rattle.records.specs.Layout.{listed, size, offset}
 use Rattle.reading.specs.Places.{run-from, run-of}
-use Rattle.reading.proofs.PlaceLaws.{place, places, offset, ordered-by-places}
+use Rattle.reading.proofs.PlaceLaws.{place, places, ordered-by-places}
 use Rattle.reading.proofs.order.in_order.Statement.{statement}
 use Rattle.reading.proofs.order.in_order.Tie as tie
 
