@@ -1,1 +1,2 @@
 pub mod Agenda
+pub mod Clock
