@@ -1,2 +1,4 @@
 pub mod Agenda
 pub mod Clock
+pub mod Picked
+pub mod Underway
