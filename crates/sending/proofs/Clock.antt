@@ -78,7 +78,11 @@ module _ (a b : List ℕ) where
   unfolding stage
   stage-in P t k old new = chosen P (ltb (due k) t) (getD b k 0) (getD a k 0) (λ e. new) (λ e. old)
 
-  module _ (words : List ℕ) (t : ℕ) (now : (k : ℕ) → k < configured → getD words k 0 ≡ stage t k) where
+  -- the words are those before a turn
+  abbrev pub Stands : ℕ → List ℕ → Type 0
+  Stands t words = (k : ℕ) → k < configured → getD words k 0 ≡ stage t k
+
+  module _ (words : List ℕ) (t : ℕ) (now : Stands t words) where
     held-at : (k : ℕ) → k < configured → held words k ≡ first (ltb (due k) t) (held b k) (held a k)
     unfolding held stage
     held-at k h = ap signed16 (now k h) ∙ under signed16 (ltb (due k) t) (getD b k 0) (getD a k 0)

@@ -1,4 +1,5 @@
 pub mod Agenda
 pub mod Clock
 pub mod Picked
+pub mod Turns
 pub mod Underway
