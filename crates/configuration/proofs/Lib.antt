@@ -1,3 +1,4 @@
+pub mod Allowed
 pub mod Configuration
 pub mod Neighbours
 pub mod Start
