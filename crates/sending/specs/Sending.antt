@@ -1,10 +1,10 @@
 -- Which entries a restore list sends, and in which order: "one record per entry whose bytes differ", and never one that its chain refuses.
 -- Assumes nothing.
-use Prim.Native.Nat.{ℕ, zero, suc, _-_}
+use Prim.Native.Nat.{ℕ, zero, suc, _+_, _-_}
 use mathlib.Core.Bool.{Bool, not, _&&_}
 use mathlib.Core.List.{List, [], _∷_, _++_, reverse}
 use lib.Dec.{eqb}
-use lib.ListN.{getD}
+use lib.ListN.{length, getD}
 use Rattle.numbers.specs.Choice.{first}
 use Rattle.numbers.specs.Order.{below}
 use Rattle.dictionary.specs.Names.{configured, slot-of}
@@ -48,3 +48,12 @@ sent a b slots = reverse (picked (rises a b) slots) ++ picked (falls a b) slots
 
 unfoldable pub sends : List ℕ → List ℕ → List ℕ
 sends a b = sent a b order
+
+-- the number of entries that differ
+unfoldable pub apart : List ℕ → List ℕ → ℕ
+apart a b = length (picked (differs a b) (stretch 0 configured))
+
+-- the sum of a number for each
+unfoldable pub total : (ℕ → ℕ) → List ℕ → ℕ
+total f [] = 0
+total f (s ∷ ss) = f s + total f ss
