@@ -1,15 +1,15 @@
 -- Laws of totals: over joined, turned and picked lists, and over slots in a row.
 -- Assumes nothing.
 use mathlib.Core.Path.{_≡_, refl, sym, ap, _∙_}
-use mathlib.Core.Bool.{Bool, true, false, _&&_}
+use mathlib.Core.Bool.{Bool, true, false, _&&_, and-eq-true-iff}
 use mathlib.Core.List.{List, [], _∷_, _++_, reverse, reverse-cons}
 use Prim.Native.Nat.{ℕ, zero, suc, _+_, _-_, _<_, _≤_}
+use native.Mathlib.Nat.{le-of-suc-le-suc, not-suc-le-zero}
 use native.Mathlib.Omega.{arith}
 use lib.Dec.{eqb}
-use lib.ListN.{length}
+use lib.ListN.{length, getD}
 use borrow.Author.Tests.{eqb-true, ne-eqb}
 use Rattle.numbers.specs.Choice.{first, every}
-use Rattle.numbers.proofs.Choices.{chosen}
 use Rattle.sending.specs.Sending.{slots-from, stretch, picked, total}
 
 -- ---- over any list
@@ -56,10 +56,6 @@ module _ (f : ℕ → ℕ) where
       go true e = omega arith
       go false e = omega arith
 
-  pub total-of-picked : (test : ℕ → Bool) (xs : List ℕ) → total f (picked test xs) ≤ total f xs
-  total-of-picked test xs =
-      rw (total-picked test xs) (total-least (λ s. first (test s) (f s) 0) f (λ s. chosen (λ n. n ≤ f s) (test s) (f s) 0 (λ e. omega arith) (λ e. omega arith)) xs)
-
 -- no slot that fails a test: every slot passes
 pub none-fails : (test : ℕ → Bool) (l : List ℕ) → total (λ s. first (test s) 0 1) l ≡ 0 → every test l ≡ true
 unfolding total every first
@@ -69,6 +65,12 @@ none-fails test (s ∷ l) e = go (test s) (none-fails test l) e
     go : (t : Bool) → (total (λ s. first (test s) 0 1) l ≡ 0 → every test l ≡ true) → first t 0 1 + total (λ s. first (test s) 0 1) l ≡ 0 → (t && every test l) ≡ true
     go true rest e = rest (omega arith)
     go false rest e = absurd (omega arith)
+
+pub every-at : (test : ℕ → Bool) (l : List ℕ) → every test l ≡ true → (n : ℕ) → n < length l → test (getD l n 0) ≡ true
+unfolding every
+every-at test [] e n h = absurd (not-suc-le-zero h)
+every-at test (s ∷ l) e zero h = and-eq-true-iff (test s) (every test l) .0 e .0
+every-at test (s ∷ l) e (suc n) h = every-at test l (and-eq-true-iff (test s) (every test l) .0 e .1) n (le-of-suc-le-suc h)
 
 -- ---- over slots in a row
 
@@ -82,17 +84,18 @@ unfolding stretch
 total-stretch f g n h = total-row f g (n - 0) 0 (λ k l m. h k (omega arith))
 
 -- one slot comes at most once
-module _ (slot : ℕ) where
-  later : (n from : ℕ) → slot < from → total (λ s. first (eqb s slot) 1 0) (slots-from from n) ≡ 0
+module _ (f : ℕ → ℕ) (slot : ℕ) where
+  later : (n from : ℕ) → slot < from → total (λ s. first (eqb s slot) (f s) 0) (slots-from from n) ≡ 0
   unfolding first
   later n from h =
-      total-row (λ s. first (eqb s slot) 1 0) (λ s. 0) n from (λ k l m. ap (λ (t : Bool). first t 1 0) (ne-eqb k slot (λ e. omega arith))) ∙ total-none (slots-from from n)
+      total-row (λ s. first (eqb s slot) (f s) 0) (λ s. 0) n from (λ k l m. rw (ne-eqb k slot (λ e. omega arith))) ∙ total-none (slots-from from n)
 
-  pub once : (n from : ℕ) → total (λ s. first (eqb s slot) 1 0) (slots-from from n) ≤ 1
+  pub once : (n from : ℕ) → total (λ s. first (eqb s slot) (f s) 0) (slots-from from n) ≤ f slot
   unfolding total slots-from first
   once zero from = omega arith
   once (suc n) from = go (eqb from slot) refl (once n (suc from))
     where
-      go : (t : Bool) → eqb from slot ≡ t → total (λ s. first (eqb s slot) 1 0) (slots-from (suc from) n) ≤ 1 → first t 1 0 + total (λ s. first (eqb s slot) 1 0) (slots-from (suc from) n) ≤ 1
-      go true e l = let q = eqb-true from slot e in omega (arith, later n (suc from) (omega arith))
+      go : (t : Bool) → eqb from slot ≡ t → total (λ s. first (eqb s slot) (f s) 0) (slots-from (suc from) n) ≤ f slot
+          → first t (f from) 0 + total (λ s. first (eqb s slot) (f s) 0) (slots-from (suc from) n) ≤ f slot
+      go true e l = let q = eqb-true from slot e in omega (arith, ap f q, later n (suc from) (omega arith))
       go false e l = omega arith
