@@ -1,9 +1,9 @@
 -- The turns of a restore list: every slot once on the way down, for what rises, and once on the way up, for what falls. At each
 -- turn one slot, at each slot one turn of each kind, and of two neighbours the upper one further along; computed for all of them.
 -- Assumes nothing.
-use mathlib.Core.Path.{_≡_, refl, sym, ap, _∙_}
+use mathlib.Core.Path.{_≡_, refl}
 use mathlib.Core.Bool.{Bool, true, false}
-use mathlib.Core.List.{List, _++_, map, reverse}
+use mathlib.Core.List.{_++_, map, reverse}
 use Prim.Native.Nat.{ℕ, suc, _+_, _-_, _<_}
 use lib.Dec.{ltb}
 use borrow.Author.Tests.{ltb-true}

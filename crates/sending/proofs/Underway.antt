@@ -13,7 +13,10 @@ use borrow.Author.Tests.{eqb-true, eqb-false, le-ltb}
 use Rattle.numbers.specs.Choice.{first}
 use Rattle.dictionary.specs.Names.{configured}
 use Rattle.dictionary.proofs.Tabulate.{tabulate}
+use Rattle.entries.specs.Judge.{judged}
 use Rattle.entries.specs.Valid.{Valid}
+use Rattle.entries.specs.declared.types.Verdict.the-variants.{Good}
+use Rattle.configuration.proofs.Allowed.{allowed}
 use Rattle.sending.specs.Sending.{sends}
 use Rattle.sending.proofs.Agenda.{Call, turns, turn-of, call-at, turn-at, slot-inside}
 use Rattle.sending.proofs.Clock.{Stands, due, stage, stage-in, stage-valid}
@@ -98,6 +101,10 @@ module _ {a b left words : List ℕ} where
   -- each of them is the first configuration's or the second's
   pub either : Underway a b left words → (k : ℕ) → k < configured → (getD words k 0 ≡ getD a k 0) ⊎ (getD words k 0 ≡ getD b k 0)
   either u k h = rw (u .now k h) (stage-in a b (λ x. (x ≡ getD a k 0) ⊎ (x ≡ getD b k 0)) (u .turn) k (inl refl) (inr refl))
+
+-- so the next write is accepted
+pub accepted : {a b left words : List ℕ} {slot : ℕ} → Valid a → Valid b → Underway a b (slot ∷ left) words → slot < length words → judged words slot (getD b slot 0) ≡ Good
+accepted {b = b} {words = words} {slot = slot} v w u l = allowed words slot (getD b slot 0) (inside u) l (valid v w (step u l))
 
 -- ---- the beginning and the end
 

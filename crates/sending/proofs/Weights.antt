@@ -1,6 +1,6 @@
 -- What a restore list weighs, at so much for a record of each entry: what differs weighs, and a write spares at most its own entry.
 -- Assumes nothing.
-use mathlib.Core.Path.{_≡_, refl, sym, ap, _∙_, fun-ext}
+use mathlib.Core.Path.{_≡_, refl, ap, _∙_, fun-ext}
 use mathlib.Core.Bool.{Bool, true, false, not, _&&_}
 use mathlib.Core.List.{List, _++_, reverse}
 use Prim.Native.Nat.{ℕ, _+_, _-_, _<_, _≤_}
@@ -8,7 +8,7 @@ use native.Mathlib.Omega.{arith}
 use lib.Dec.{eqb}
 use lib.ListN.{getD, set}
 use lib.Seq.{getD-set-other}
-use borrow.Author.Tests.{eqb-true, eqb-false, eq-eqb}
+use borrow.Author.Tests.{eqb-false, eq-eqb}
 use Rattle.numbers.specs.Choice.{first}
 use Rattle.numbers.specs.Order.{below}
 use Rattle.numbers.proofs.Choices.{chosen}
