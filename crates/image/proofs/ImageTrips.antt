@@ -27,7 +27,7 @@ use Rattle.records.proofs.RightLaws.{Right, All-right, Whole}
 use Rattle.records.proofs.SizeLaws.{listed-extent, image-length}
 use Rattle.reading.specs.Reading.{in-order, configuration-in}
 use Rattle.reading.proofs.Acceptance.{Accepted}
-use Rattle.reading.proofs.PlaceLaws.{counted, value-at}
+use Rattle.reading.proofs.PlaceLaws.{counted, value-at, right-at}
 use Rattle.image.proofs.ChainTrips.{order-linked, linked-order, front-order}
 use Rattle.image.proofs.LoadLaws.{values-length}
 use Rattle.image.proofs.RecordTrips.{Fit, all-fit, records-right, values-back, records-back, records-front, bytes-back}
@@ -129,13 +129,6 @@ module _ (image : List ℕ) (a : Accepted image) (b : Bytes image) where
       let rest = records-front listed (values listed (drop 4 image)) more (omega (arith, values-length listed (drop 4 image)))
       ∙ records-back listed (drop 4 image) (a .walk .rights) (bytes-from 4 image b) (omega (arith, listed-extent)) in
       rw (front, rest) (take-append-drop 4 image)
-
-right-at : (es : List Listed) (rest : List ℕ) → All-right es rest → (k : ℕ) → k < length es → Right (entry es k) (drop (offset es k) rest)
-unfolding All-right entry offset
-right-at [] rest r k h = absurd (not-suc-le-zero h)
-right-at (e ∷ es) rest r zero h = r .0
-right-at (e ∷ es) rest r (suc k) h =
-    subst (Right (entry es k)) (drop-drop (offset es k) (7 + size e) rest) (right-at es (drop (7 + size e) rest) (r .1) k (le-of-suc-le-suc h))
 
 only-good : (v : Verdict) → is-good v ≡ true → v ≡ Good
 unfolding is-good

@@ -1,6 +1,6 @@
 -- The chains of a configuration, by the places of its entries in an image.
 -- Assumes nothing.
-use mathlib.Core.Path.{_≡_, refl, sym, ap, _∙_}
+use mathlib.Core.Path.{_≡_, refl, sym, ap, subst, _∙_}
 use mathlib.Core.Bool.{Bool, true, false, not, _&&_, and-eq-true-iff}
 use mathlib.Core.List.{List, [], _∷_, _++_, map, flatMap}
 use Prim.Native.Nat.{ℕ, zero, suc, _+_, _-_, _<_, _≤_}
@@ -19,6 +19,7 @@ use Rattle.roles.proofs.RoleLaws.{run, runs, chains-run}
 use Rattle.entries.specs.Judge.{held}
 use Rattle.records.specs.Layout.{Listed, listed, size, entry, offset}
 use Rattle.records.specs.Walk.{data-in, values, taken-in}
+use Rattle.records.proofs.RightLaws.{Right, All-right}
 use Rattle.records.proofs.SizeLaws.{listed-extent}
 use Rattle.records.proofs.WalkLaws.{image-taken}
 use Rattle.records.specs.declared.types.Refusal.the-variants.{OutOfOrder, LeftOver}
@@ -38,6 +39,14 @@ value-at (e ∷ es) rest zero h = refl
 value-at (e ∷ es) rest (suc slot) h =
     value-at es (drop (7 + size e) rest) slot (le-of-suc-le-suc h)
     ∙ ap (data-in (size (entry es slot))) (drop-drop (offset es slot) (7 + size e) rest)
+
+-- each record of records that are right is right at its place
+pub right-at : (es : List Listed) (rest : List ℕ) → All-right es rest → (k : ℕ) → k < length es → Right (entry es k) (drop (offset es k) rest)
+unfolding All-right entry offset
+right-at [] rest r k h = absurd (not-suc-le-zero h)
+right-at (e ∷ es) rest r zero h = r .0
+right-at (e ∷ es) rest r (suc k) h =
+    subst (Right (entry es k)) (drop-drop (offset es k) (7 + size e) rest) (right-at es (drop (7 + size e) rest) (r .1) k (le-of-suc-le-suc h))
 
 -- where the data of a slot stands in an image
 unfoldable pub place : ℕ → ℕ

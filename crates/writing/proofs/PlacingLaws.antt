@@ -9,6 +9,7 @@ use lib.ListN.{length, getD, set, drop, length-append, drop-of-length-le}
 use lib.Seq.{sets, length-sets, drop-nil, drop-drop, drop-cons, getD-drop}
 use Rattle.little.specs.Little.{bytes}
 use Rattle.little.proofs.ByteLaws.{bytes-length}
+use Rattle.little.proofs.Parts.{sets-append}
 use Rattle.records.specs.Layout.{Listed, size, record-of, records, extent}
 use Rattle.records.proofs.SizeLaws.{record-length, records-length}
 use Rattle.records.specs.Rows.{row-of, row-from, entry-at}
@@ -16,11 +17,6 @@ use Rattle.writing.specs.declared.types.Front.{Front}
 use Rattle.writing.specs.Placing.{Room, Placed}
 
 -- ---- bytes behind bytes
-
-sets-append : (a b l : List ℕ) (i : ℕ) → sets l i (a ++ b) ≡ sets (sets l i a) (i + length a) b
-sets-append [] b l i = ap (λ (n : ℕ). sets l n b) (sym (add-zero i))
-sets-append (x ∷ a) b l i =
-    sets-append a b (set l i x) (suc i) ∙ ap (λ (n : ℕ). sets (sets (set l i x) (suc i) a) n b) (omega arith)
 
 pub put-behind : (a b l : List ℕ) (at : ℕ) {l′ l″ : List ℕ} {next : ℕ} → l′ ≡ sets l at a → l″ ≡ sets l′ next b → next ≡ at + length a → l″ ≡ sets l at (a ++ b)
 put-behind a b l at p q h = q ∙ rw (p, h) (sym (sets-append a b l at))
