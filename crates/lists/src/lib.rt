@@ -1,0 +1,2 @@
+// A restore list, made from a current and a wanted image.
+pub mod types;
