@@ -1,5 +1,6 @@
 pub mod ComparingLaws
 pub mod FindingLaws
+pub mod LengthLaws
 pub mod NotingLaws
 pub mod OrderLaws
 pub mod StandingLaws

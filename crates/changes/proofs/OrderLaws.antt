@@ -4,10 +4,10 @@ use mathlib.Core.Path.{_≡_, refl, sym, ap, _∙_}
 use mathlib.Core.Bool.{Bool, true, false, not, _&&_, and-eq-true-iff}
 use mathlib.Core.List.{List, [], _∷_, _++_, map, reverse, flatMap, append-nil, append-assoc, map-append, reverse-append}
 use Prim.Native.Nat.{ℕ, zero, suc, _+_, _-_, _<_, _≤_}
-use native.Mathlib.Nat.{add-assoc}
+use native.Mathlib.Nat.{add-assoc, le-of-suc-le-suc, not-suc-le-zero}
 use native.Mathlib.Omega.{arith}
 use lib.Dec.{ltb}
-use lib.ListN.{length, length-append, length-map, length-reverse}
+use lib.ListN.{length, getD, length-append, length-map, length-reverse}
 use lib.Seq.{sets}
 use borrow.Author.Tests.{ltb-true}
 use Rattle.little.specs.Little.{bytes}
@@ -21,13 +21,13 @@ use Rattle.records.specs.Layout.{listed, size, offset, record-in}
 use Rattle.records.specs.declared.types.Outcome.the-variants.{Good}
 use Rattle.reading.specs.Reading.{reading, configuration-in}
 use Rattle.sending.specs.Sending.{slots-from, stretch, order, picked, differs, rises, falls, sent, sends}
-use Rattle.sending.proofs.Counting.{all-inside}
+use Rattle.sending.proofs.Counting.{all-inside, each-inside}
 use Rattle.sending.proofs.Picked.{picked-append}
 use Rattle.changes.specs.Changes.{changes, list-of, place-of, places, noted}
-use Rattle.changes.specs.Noting.{record-from, State, Room, Further, joined, laid}
+use Rattle.changes.specs.Noting.{Stands, record-from, State, Room, Further, joined, laid}
 use Rattle.changes.specs.declared.types.Noted.{Noted}
 use Rattle.changes.proofs.NotingLaws.{fewer, stretch-length}
-use Rattle.changes.proofs.StandingLaws.{record-is}
+use Rattle.changes.proofs.StandingLaws.{record-is, stands}
 
 -- ---- stretch after stretch
 
@@ -83,6 +83,11 @@ same-records image g (s ∷ ss) e =
     let both = and-eq-true-iff (ltb s 611) (every (λ s. ltb s 611) ss) .0 e in
     rw (record-is image g s (ltb-true s 611 (both .0)), same-records image g ss (both .1))
 
+getD-place : (ss : List ℕ) (k : ℕ) → k < length ss → getD (map place-of ss) k 0 ≡ place-of (getD ss k 0)
+getD-place [] k h = absurd (not-suc-le-zero h)
+getD-place (s ∷ ss) zero h = refl
+getD-place (s ∷ ss) (suc k) h = getD-place ss k (le-of-suc-le-suc h)
+
 -- ---- the whole
 
 fields : (n : Noted) {low high long : ℕ} → n .low ≡ low → n .high ≡ high → n .long ≡ long → n ≡ record { low = low; high = high; long = long }
@@ -92,13 +97,21 @@ many : configured ≡ 611
 unfolding configured
 many = refl
 
-module _ (current wanted notes notes′ : List ℕ) (n : Noted) (g : reading wanted ≡ Good) (f : Further current wanted order notes (record { low = 611; high = 611; long = 4 }) notes′ n) where
-  end : State wanted notes (0 + length (picked (rises (configuration-in current) (configuration-in wanted)) order)) (places current wanted) notes′ n
-  unfolding sent sends places changes picked flatMap
-  end =
-      rw (← laid-sent (configuration-in current) (configuration-in wanted) [] order)
-      (f .states notes 0 [] (record { middle = refl; stored = refl; high = refl; long = refl }))
+-- no more than all slots are picked
+fewer-picked : (test : ℕ → Bool) (slots : List ℕ) → length (picked test slots) ≤ length slots
+unfolding picked first
+fewer-picked test [] = omega arith
+fewer-picked test (s ∷ slots) = go (test s) (fewer-picked test slots)
+  where
+    go : (t : Bool) → length (picked test slots) ≤ length slots → length (first t (s ∷ picked test slots) (picked test slots)) ≤ suc (length slots)
+    go true h = omega arith
+    go false h = omega arith
 
+all-slots : length order ≡ 611
+unfolding order slot-of configured stretch slots-from
+all-slots = refl
+
+module _ (current wanted : List ℕ) where
   ups : List ℕ
   ups = picked (rises (configuration-in current) (configuration-in wanted)) order
 
@@ -112,18 +125,46 @@ module _ (current wanted notes notes′ : List ℕ) (n : Noted) (g : reading wan
       ∙ length-append (reverse ups) downs
       ∙ ap (λ (k : ℕ). k + length downs) (length-reverse ups)
 
-  as-long : length (list-of current wanted) ≡ 4 + length (flatMap (record-from wanted) (places current wanted))
-  unfolding list-of places changes
-  as-long =
-      length-append (bytes 4 (length (changes current wanted))) (flatMap (record-in wanted) (changes current wanted))
-      ∙ rw (bytes-length 4 (length (changes current wanted)), same-records wanted g (changes current wanted) (all-inside (configuration-in current) (configuration-in wanted)))
+  -- the places stand in one part of the notes
+  pub in-notes : (noted current wanted .low + length (places current wanted) ≡ noted current wanted .high) × (noted current wanted .high ≤ 1222)
+  unfolding noted ups downs
+  in-notes =
+      let total = as-many in
+      let up = fewer-picked (rises (configuration-in current) (configuration-in wanted)) order in
+      let down = fewer-picked (falls (configuration-in current) (configuration-in wanted)) order in
+      (omega (arith, many, all-slots), omega (arith, many, all-slots))
+
+  module _ (g : reading wanted ≡ Good) where
+    -- the list, by these places
+    pub list-by-places : bytes 4 (length (places current wanted)) ++ flatMap (record-from wanted) (places current wanted) ≡ list-of current wanted
+    unfolding list-of places changes
+    list-by-places =
+        rw (length-map (changes current wanted) place-of, same-records wanted g (changes current wanted) (all-inside (configuration-in current) (configuration-in wanted)))
+
+    as-long : length (list-of current wanted) ≡ 4 + length (flatMap (record-from wanted) (places current wanted))
+    as-long =
+        ap length (sym list-by-places) ∙ length-append (bytes 4 (length (places current wanted))) (flatMap (record-from wanted) (places current wanted))
+        ∙ rw (bytes-length 4 (length (places current wanted)))
+
+    pub each-stands : (k : ℕ) → k < length (places current wanted) → Stands wanted (getD (places current wanted) k 0)
+    unfolding places changes configured
+    each-stands k h =
+        let short = length-map (changes current wanted) place-of in
+        rw (getD-place (changes current wanted) k (omega arith)) (stands wanted g _ (each-inside (configuration-in current) (configuration-in wanted) k (omega arith)))
+
+module _ (current wanted notes notes′ : List ℕ) (n : Noted) (g : reading wanted ≡ Good) (f : Further current wanted order notes (record { low = 611; high = 611; long = 4 }) notes′ n) where
+  end : State wanted notes (0 + length (ups current wanted)) (places current wanted) notes′ n
+  unfolding sent sends places changes picked flatMap ups
+  end =
+      rw (← laid-sent (configuration-in current) (configuration-in wanted) [] order)
+      (f .states notes 0 [] (record { middle = refl; stored = refl; high = refl; long = refl }))
 
   pub all-noted : (n ≡ noted current wanted) × (notes′ ≡ sets notes (n .low) (places current wanted))
   unfolding noted ups downs
   all-noted =
-      let middle : n .low + (0 + length ups) ≡ 611 = end .middle in
-      let total = as-many in
-      (fields n (omega (arith, many)) (omega (arith, many, end .high)) (end .long ∙ sym as-long), end .stored)
+      let middle = end .middle in
+      let total = as-many current wanted in
+      (fields n (omega (arith, many)) (omega (arith, many, end .high)) (end .long ∙ sym (as-long current wanted g)), end .stored)
 
 -- ---- the stretches, by computing
 

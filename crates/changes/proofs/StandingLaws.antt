@@ -6,7 +6,7 @@ use Prim.Native.Nat.{ℕ, zero, suc, _+_, _<_, _≤_}
 use native.Mathlib.Nat.{le-of-suc-le-suc, not-suc-le-zero}
 use native.Mathlib.Omega.{arith}
 use lib.ListN.{length, getD, take, drop, length-drop}
-use lib.Seq.{drop-drop}
+use lib.Seq.{drop-drop, length-take-le}
 use Rattle.dictionary.specs.Rows.{width}
 use Rattle.dictionary.specs.declared.types.Kind.{Kind}
 use Rattle.dictionary.specs.declared.types.Kind.the-variants.{Unsigned8, Integer16, Unsigned16, Real32}
@@ -69,6 +69,12 @@ module _ (image : List ℕ) (g : reading image ≡ Good) (slot : ℕ) (h : slot 
   pub record-is : record-from image (place-of slot) ≡ record-in image slot
   unfolding record-from record-in place-of
   record-is = ap (λ (n : ℕ). take (7 + n) (drop (place-of slot) image)) size-is
+
+  pub record-length : length (record-in image slot) ≡ 7 + size (entry listed slot)
+  unfolding record-in place-of
+  record-length =
+      let room = right .room in
+      length-take-le (7 + size (entry listed slot)) (drop (place-of slot) image) (omega arith)
 
   pub before-the-end : place-of slot + 7 < 5207
   before-the-end = let inside = stands .inside in let some = stands .some in omega (arith, accepted image g .long)

@@ -1,0 +1,2 @@
+pub mod CopyingLaws
+pub mod ListLaws

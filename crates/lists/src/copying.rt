@@ -1,0 +1,59 @@
+// The records of a list, copied as they stand.
+ghost use mathlib.Core.Path.{_≡_};
+ghost use mathlib.Core.List.{_++_, flatMap};
+ghost use Prim.Native.Nat.{_+_, _≤_, _<_};
+ghost use lib.ListN.{length};
+ghost use lib.Seq.{sets};
+ghost use Rattle.little.specs.Little.{bytes};
+ghost use Rattle.changes.specs.Noting.{Stands, record-from};
+ghost use Rattle.lists.specs.Copying.{Standing};
+
+// Some bytes, one after the other.
+fn put(list: &mut [u8], at: usize, part: &[u8])
+    requires { ⌜ at + length (now part) ≤ length (now list) ⌝ }
+    ensures { λ _. ⌜ now (list .exit) ≡ sets (now (list .entry)) at (now (part .entry)) ⌝ }
+{
+    let mut k: usize = 0;
+    while k < part.len() {
+        list[at + k] = part[k];
+        k += 1;
+    }
+}
+
+// The record that begins at a place of the image, and where the next one goes.
+fn copy_record(wanted: &[u8], place: usize, list: &mut [u8], at: usize) -> usize
+    requires { ⌜ Stands (now wanted) place × (at + length (record-from (now wanted) place) ≤ length (now list)) ⌝ }
+    ensures { λ r. ⌜ (now (list .exit) ≡ sets (now (list .entry)) at (record-from (now (wanted .entry)) place)) × (r ≡ at + length (record-from (now (wanted .entry)) place)) ⌝ }
+{
+    let size = 7 + wanted[place + 3] as usize;
+    put(list, at, &wanted[place..place + size]);
+    at + size
+}
+
+// The count in four bytes.
+fn put_count(list: &mut [u8], count: usize)
+    requires { ⌜ 4 ≤ length (now list) ⌝ }
+    ensures { λ _. ⌜ now (list .exit) ≡ sets (now (list .entry)) 0 (bytes 4 count) ⌝ }
+{
+    let second = count / 0x100;
+    let third = second / 0x100;
+    let fourth = third / 0x100;
+    list[0] = (count % 0x100) as u8;
+    list[1] = (second % 0x100) as u8;
+    list[2] = (third % 0x100) as u8;
+    list[3] = (fourth % 0x100) as u8;
+}
+
+// The count, and behind it the records.
+pub fn write_list(wanted: &[u8], places: &[u16], list: &mut [u8])
+    requires { ⌜ Standing (now wanted) (now places) × (4 + length (flatMap (record-from (now wanted)) (now places)) ≤ length (now list)) ⌝ }
+    ensures { λ _. ⌜ now (list .exit) ≡ sets (now (list .entry)) 0 (bytes 4 (length (now (places .entry))) ++ flatMap (record-from (now (wanted .entry))) (now (places .entry))) ⌝ }
+{
+    put_count(list, places.len());
+    let mut at: usize = 4;
+    let mut k: usize = 0;
+    while k < places.len() {
+        at = copy_record(wanted, places[k] as usize, list, at);
+        k += 1;
+    }
+}
