@@ -406,16 +406,6 @@ static void store16(uint8_t *p, uint32_t v)
     p[1] = v >> 8;
 }
 
-/* What is only shown is no configuration, and the EC values are not either. */
-static int is_configured(const struct row *row) { return !row->fixed && row->name >> 8 != 0x2500; }
-
-/* The first sub with an entry: an ARRAY's sub 0 is its largest sub. */
-static uint32_t first_sub(const struct row *row)
-{
-    uint32_t first = row->name & 0xFF;
-    return first == 0 && row->largest ? 1 : first;
-}
-
 /* The value of one record of so many bytes, or how the record is wrong. */
 static int32_t decode(const struct row *row, uint32_t sub, const uint8_t *record, size_t length, int32_t *value)
 {
@@ -521,4 +511,82 @@ int32_t plain_save(const struct plain *s, uint8_t *image, size_t length)
             for (uint32_t sub = first_sub(row); sub <= row->last; sub++)
                 record = encode(row, sub, (uint32_t)word_at(s, row->word + (int32_t)sub), record);
     return 0;
+}
+
+/* ---- Restore lists: the wanted image's records whose data are not the current image's, in an order that a unit accepts */
+
+/* An image in the order for sending, from and to: 7148h:1-4 before 7120h:1-4, so that of two neighbours in a chain the upper one comes
+   later. */
+static const uint16_t stretches[4][2] = {{COUNT, 4811}, {4955, 4991}, {4811, 4955}, {4991, IMAGE}};
+
+/* Where the records stand that have to be sent: from the front those that fall, and from the end, backward, those that rise. */
+struct plan {
+    uint16_t record[ENTRIES];
+    uint32_t falling, rising;
+    int32_t length; /* of the list */
+};
+
+static uint32_t data_of(const uint8_t *record, uint32_t size)
+{
+    return size == 1 ? record[HEAD] : size == 2 ? load16(record + HEAD) : load32(record + HEAD);
+}
+
+/* As chains read it. */
+static int32_t number_in(uint32_t data, uint32_t size) { return size == 1 ? (int32_t)data : (int16_t)data; }
+
+/* Both images are good, so that their records stand at the same places. */
+static void make_plan(struct plan *plan, const uint8_t *current, const uint8_t *wanted)
+{
+    plan->falling = 0;
+    plan->rising = ENTRIES;
+    plan->length = COUNT;
+    for (int i = 0; i < 4; i++) {
+        for (uint32_t at = stretches[i][0], size; at < stretches[i][1]; at += HEAD + size) {
+            size = wanted[at + 3];
+            uint32_t before = data_of(current + at, size), after = data_of(wanted + at, size);
+            if (before == after)
+                continue;
+            plan->length += (int32_t)(HEAD + size);
+            if (number_in(before, size) < number_in(after, size))
+                plan->record[--plan->rising] = (uint16_t)at;
+            else
+                plan->record[plan->falling++] = (uint16_t)at;
+        }
+    }
+}
+
+/* Copies the records; behind them. */
+static uint8_t *copy_records(uint8_t *to, const uint8_t *wanted, const uint16_t *from, const uint16_t *end)
+{
+    for (; from < end; from++) {
+        const uint8_t *record = wanted + *from;
+        uint32_t size = record[3];
+        __builtin_memcpy(to, record, HEAD + 1);
+        if (size == 2)
+            to[HEAD + 1] = record[HEAD + 1];
+        else if (size == 4)
+            __builtin_memcpy(to + HEAD, record + HEAD, 4);
+        to += HEAD + size;
+    }
+    return to;
+}
+
+int32_t plain_restore_list(const uint8_t *current, size_t current_length, const uint8_t *wanted, size_t wanted_length, uint8_t *list,
+                           size_t list_length)
+{
+    struct plan plan;
+    uint8_t *record;
+    int32_t wrong = plain_check(current, current_length);
+    if (wrong)
+        return wrong;
+    wrong = plain_check(wanted, wanted_length);
+    if (wrong)
+        return wrong - 10;
+    make_plan(&plan, current, wanted);
+    if ((size_t)plan.length > list_length)
+        return NO_ROOM;
+    store32(list, plan.falling + ENTRIES - plan.rising);
+    record = copy_records(list + COUNT, wanted, plan.record + plan.rising, plan.record + ENTRIES);
+    copy_records(record, wanted, plan.record, plan.record + plan.falling);
+    return plan.length;
 }

@@ -198,7 +198,7 @@ def main(arguments):
     parser.add_argument("--seed", default="1")
     parser.add_argument("--library", type=pathlib.Path)
     chosen = parser.parse_args(arguments)
-    driver = Driver(chosen.library or sides.library())
+    driver = Driver(chosen.library or sides.library("firmware"))
     bench = Bench(driver, random.Random(chosen.seed))
     try:
         compare_all(bench, chosen.seed)
