@@ -515,9 +515,16 @@ int32_t plain_save(const struct plain *s, uint8_t *image, size_t length)
 
 /* ---- Restore lists: the wanted image's records whose data are not the current image's, in an order that a unit accepts */
 
-/* An image in the order for sending, from and to: 7148h:1-4 before 7120h:1-4, so that of two neighbours in a chain the upper one comes
-   later. */
-static const uint16_t stretches[4][2] = {{COUNT, 4811}, {4955, 4991}, {4811, 4955}, {4991, IMAGE}};
+/* Where the records of 7120h, 7148h and 7149h begin in an image. */
+enum { LINE_STARTS = 4811, SPAN_STARTS = 4955, SPAN_ENDS = 4991 };
+
+/* An image in the order for sending, from and to: of two neighbours in a chain the upper one comes later, 7148h thus before 7120h. */
+static const uint16_t stretches[4][2] = {
+    {COUNT, LINE_STARTS},
+    {SPAN_STARTS, SPAN_ENDS},
+    {LINE_STARTS, SPAN_STARTS},
+    {SPAN_ENDS, IMAGE},
+};
 
 /* Where the records stand that have to be sent: from the front those that fall, and from the end, backward, those that rise. */
 struct plan {
@@ -526,13 +533,19 @@ struct plan {
     int32_t length; /* of the list */
 };
 
-static uint32_t data_of(const uint8_t *record, uint32_t size)
+/* The value as chains read it. */
+static int32_t number_in(const uint8_t *record, uint32_t size)
 {
-    return size == 1 ? record[HEAD] : size == 2 ? load16(record + HEAD) : load32(record + HEAD);
+    return size == 1 ? record[HEAD] : (int16_t)load16(record + HEAD);
 }
 
-/* As chains read it. */
-static int32_t number_in(uint32_t data, uint32_t size) { return size == 1 ? (int32_t)data : (int16_t)data; }
+/* The last eight bytes of a record: all of its data, and the end of its head, which is the same in every image. */
+static uint64_t tail_of(const uint8_t *record, uint32_t size)
+{
+    uint64_t tail;
+    __builtin_memcpy(&tail, record + HEAD + size - 8, 8);
+    return tail;
+}
 
 /* Both images are good, so that their records stand at the same places. */
 static void make_plan(struct plan *plan, const uint8_t *current, const uint8_t *wanted)
@@ -543,11 +556,10 @@ static void make_plan(struct plan *plan, const uint8_t *current, const uint8_t *
     for (int i = 0; i < 4; i++) {
         for (uint32_t at = stretches[i][0], size; at < stretches[i][1]; at += HEAD + size) {
             size = wanted[at + 3];
-            uint32_t before = data_of(current + at, size), after = data_of(wanted + at, size);
-            if (before == after)
+            if (tail_of(current + at, size) == tail_of(wanted + at, size))
                 continue;
             plan->length += (int32_t)(HEAD + size);
-            if (number_in(before, size) < number_in(after, size))
+            if (number_in(current + at, size) < number_in(wanted + at, size))
                 plan->record[--plan->rising] = (uint16_t)at;
             else
                 plan->record[plan->falling++] = (uint16_t)at;

@@ -8,7 +8,6 @@ damage alone says it, else None.
 import random
 
 import images_cases
-import images_model
 import model
 import sessions
 from images_cases import CHAINS, DEFAULTS, REALS, put, some_configuration, some_steps, some_value, with_bits

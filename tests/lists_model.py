@@ -8,7 +8,7 @@ them in the order which crates/gateway/restore_list.h promises.
 import struct
 
 import model
-from images_model import COUNT, ENTRIES, HEAD, PLACES, configuration_of, dictionary_with, image_of, read_image
+from images_model import COUNT, ENTRIES, HEAD, PLACES, configuration_of, dictionary_with, read_image
 
 NO_ROOM = -8  # "then -8 for room"
 

@@ -126,9 +126,6 @@ READING = """    refused, first, second = refusal_of(current, wanted)
     if refused:
         return refused, before
 """
-ROOM = """    if len(made) > len(before):
-        return NO_ROOM, before
-"""
 DONE = "    return len(made), made + before[len(made) :]\n"
 
 CURRENT_NUMBER, WANTED_NUMBER = "        return -refusal, None, None\n", "        return -(10 + refusal), None, None\n"
@@ -140,7 +137,7 @@ WANTED = """    refusal, second = read_image(wanted)
     if refusal:
         return -(10 + refusal), None, None
 """
-WRITTEN = 'bytes(4)[: len(before)] + before[4:]'
+WRITTEN = "bytes(4)[: len(before)] + before[4:]"
 
 # What is wrong, the group that must notice it, and the change. All of these are wrong by the paper.
 WRONG_MAKERS = (
@@ -257,6 +254,19 @@ def check_passing(seed):
     return "the model passes against itself"
 
 
+def check_links(seed):
+    """Every link is crossed upward and downward: its two records in the other order, and the first would be refused."""
+
+    def value(configuration, place):
+        return images_model.value_of(images_model.ENTRIES[place], configuration[place])
+
+    pairs = [pair for _, *pair in cases.cases((cases.moved_chains,), seed)]
+    for lower, gap, upper in images_model.LINKS:
+        assert any(value(second, lower) + gap > value(first, upper) for first, second in pairs), (lower, upper)
+        assert any(value(first, lower) + gap > value(second, upper) for first, second in pairs), (lower, upper)
+    return "%d links, each crossed upward and downward" % len(images_model.LINKS)
+
+
 def main(arguments):
     parser = argparse.ArgumentParser(description="checks of the list check")
     parser.add_argument("--seed", default="1")
@@ -264,6 +274,7 @@ def main(arguments):
     chosen = parser.parse_args(arguments)
     print("good: " + check_stand_ins())
     print("good: " + check_passing(chosen.seed))
+    print("good: " + check_links(chosen.seed))
     missed = check_wrong_makers(chosen.seed, chosen.all)
     print("%d wrong list makers, %d not noticed" % (len(WRONG_MAKERS) + len(OTHER_ORDERS), missed))
     return 1 if missed else 0
