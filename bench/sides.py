@@ -58,7 +58,10 @@ def library(crate):
     with open(LIBRARIES / "lock", "w") as lock:
         fcntl.flock(lock, fcntl.LOCK_EX)
         if not _is_up_to_date(archive):
-            subprocess.run(["rt", "staticlib", crate], check=True, cwd=ROOT)
+            built = subprocess.run(["rt", "staticlib", crate], cwd=ROOT)
+            if built.returncode != 0:
+                archive.unlink(missing_ok=True)  # so that nobody who waited takes it for good
+            built.check_returncode()
     return archive
 
 
