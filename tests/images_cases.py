@@ -90,7 +90,7 @@ CHANGEABLE = [place for place, entry in enumerate(ENTRIES) if entry.low < entry.
 
 
 def beside_default(place):
-    """Another value than the default, close to it, so that chains hold. About half rise and half fall."""
+    """Another value than the default, close to it, so that chains hold. Of all 605, 420 rise and 185 fall."""
     entry = ENTRIES[place]
     if entry.type is model.REAL32:
         return struct.pack("<I", 1)
