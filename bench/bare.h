@@ -1,16 +1,15 @@
-/* What a C program needs that stands on the kernel's calls alone: its start, which calls run(), and the two functions that clang
-   calls for large copies. To be included by one file of a program. */
+/* What a C program needs that stands on the kernel's calls alone: its start, and the two functions that clang calls for large copies.
+   The start calls void run(void), or void run(const long *words): the number of words that the program was started with, then a pointer
+   to each. To be included by one file of a program. */
 #ifndef BARE_H
 #define BARE_H
 
 #include <stddef.h>
 
-void run(void);
-
 /* Started by the kernel with an aligned stack, as a call would not have it. */
-__asm__(".globl _start\n_start: call run\n");
+__asm__(".globl _start\n_start: mov %rsp, %rdi\ncall run\n");
 
-enum { SYS_READ = 0, SYS_WRITE = 1, SYS_MPROTECT = 10, SYS_EXIT = 60 };
+enum { SYS_READ = 0, SYS_WRITE = 1, SYS_OPEN = 2, SYS_MPROTECT = 10, SYS_EXIT = 60 };
 
 static long call(long number, long a, const void *b, long c)
 {

@@ -4,9 +4,12 @@
        S, a frame                 T, four samples
        W, I, L, a length          valve_save into the image, valve_check and valve_load of it, so many bytes of it
        B, a place and a byte      the byte at this place of the image
+       K                          a copy of the image is kept, as the current one
+       M, three lengths           restore_list from the current image to the image: so many bytes of each, and room for so many
+       D                          a digest of all the list's bytes
 
-   An answer is 16 bytes: the reply's length, seven bytes of nothing, the reply; that of W, I and L is the number returned. The whole
-   image comes behind the answers. */
+   An answer is 16 bytes: the reply's length, seven bytes of nothing, the reply; that of W, I, L, M and D is the number returned. The
+   whole image and the whole list come behind the answers. */
 #include HEADER
 #include "bare.h"
 
@@ -22,6 +25,9 @@ struct event {
         struct {
             uint32_t place;
             uint8_t byte;
+        };
+        struct {
+            uint16_t current, wanted, room;
         };
     };
 };
@@ -39,7 +45,15 @@ enum { EVENTS = 1 << 19, IMAGE = 5300 };
 static struct event events[EVENTS];
 static struct answer answers[EVENTS];
 static uint64_t unit[512]; /* room for either side's */
-static uint8_t image[IMAGE];
+static uint8_t image[IMAGE], current[IMAGE], list[IMAGE];
+
+static int32_t digest(void)
+{
+    uint32_t sum = 0;
+    for (size_t i = 0; i < sizeof list; i++)
+        sum = 31 * sum + list[i];
+    return (int32_t)sum;
+}
 
 static int32_t call_for(const struct event *event)
 {
@@ -47,6 +61,10 @@ static int32_t call_for(const struct event *event)
         return CALL(SIDE, save)((void *)unit, image, event->length);
     if (event->kind == 'I')
         return CALL(SIDE, check)(image, event->length);
+    if (event->kind == 'M')
+        return CALL(SIDE, restore_list)(current, event->current, image, event->wanted, list, event->room);
+    if (event->kind == 'D')
+        return digest();
     return CALL(SIDE, load)((void *)unit, image, event->length);
 }
 
@@ -58,6 +76,8 @@ static void take(const struct event *event, struct answer *answer)
         CALL(SIDE, tick)((void *)unit, event->samples);
     } else if (event->kind == 'B') {
         image[event->place] = event->byte;
+    } else if (event->kind == 'K') {
+        memcpy(current, image, sizeof image);
     } else {
         answer->number = call_for(event);
         answer->length = sizeof answer->number;
@@ -72,5 +92,6 @@ void run(void)
         take(&events[i], &answers[i]);
     call(SYS_WRITE, 1, answers, count * (long)sizeof *answers);
     call(SYS_WRITE, 1, image, sizeof image);
+    call(SYS_WRITE, 1, list, sizeof list);
     call(SYS_EXIT, 0, 0, 0);
 }

@@ -8,4 +8,6 @@ void empty_tick(uint32_t *unit, const int16_t *samples);
 int32_t empty_save(const uint32_t *unit, uint8_t *image, size_t image_length);
 int32_t empty_check(const uint8_t *image, size_t image_length);
 int32_t empty_load(uint32_t *unit, const uint8_t *image, size_t image_length);
-__asm__("empty_start: empty_serve: empty_tick: empty_save: empty_check: empty_load: ret");
+int32_t empty_restore_list(const uint8_t *current, size_t current_length, const uint8_t *wanted, size_t wanted_length, uint8_t *list,
+                           size_t list_length);
+__asm__("empty_start: empty_serve: empty_tick: empty_save: empty_check: empty_load: empty_restore_list: ret");

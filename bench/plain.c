@@ -406,16 +406,6 @@ static void store16(uint8_t *p, uint32_t v)
     p[1] = v >> 8;
 }
 
-/* What is only shown is no configuration, and the EC values are not either. */
-static int is_configured(const struct row *row) { return !row->fixed && row->name >> 8 != 0x2500; }
-
-/* The first sub with an entry: an ARRAY's sub 0 is its largest sub. */
-static uint32_t first_sub(const struct row *row)
-{
-    uint32_t first = row->name & 0xFF;
-    return first == 0 && row->largest ? 1 : first;
-}
-
 /* The value of one record of so many bytes, or how the record is wrong. */
 static int32_t decode(const struct row *row, uint32_t sub, const uint8_t *record, size_t length, int32_t *value)
 {
@@ -521,4 +511,94 @@ int32_t plain_save(const struct plain *s, uint8_t *image, size_t length)
             for (uint32_t sub = first_sub(row); sub <= row->last; sub++)
                 record = encode(row, sub, (uint32_t)word_at(s, row->word + (int32_t)sub), record);
     return 0;
+}
+
+/* ---- Restore lists: the wanted image's records whose data are not the current image's, in an order that a unit accepts */
+
+/* Where the records of 7120h, 7148h and 7149h begin in an image. */
+enum { LINE_STARTS = 4811, SPAN_STARTS = 4955, SPAN_ENDS = 4991 };
+
+/* An image in the order for sending, from and to: of two neighbours in a chain the upper one comes later, 7148h thus before 7120h. */
+static const uint16_t stretches[4][2] = {
+    {COUNT, LINE_STARTS},
+    {SPAN_STARTS, SPAN_ENDS},
+    {LINE_STARTS, SPAN_STARTS},
+    {SPAN_ENDS, IMAGE},
+};
+
+/* Where the records stand that have to be sent: from the front those that fall, and from the end, backward, those that rise. */
+struct plan {
+    uint16_t record[ENTRIES];
+    uint32_t falling, rising;
+    int32_t length; /* of the list */
+};
+
+/* The value as chains read it. */
+static int32_t number_in(const uint8_t *record, uint32_t size)
+{
+    return size == 1 ? record[HEAD] : (int16_t)load16(record + HEAD);
+}
+
+/* The last eight bytes of a record: all of its data, and the end of its head, which is the same in every image. */
+static uint64_t tail_of(const uint8_t *record, uint32_t size)
+{
+    uint64_t tail;
+    __builtin_memcpy(&tail, record + HEAD + size - 8, 8);
+    return tail;
+}
+
+/* Both images are good, so that their records stand at the same places. */
+static void make_plan(struct plan *plan, const uint8_t *current, const uint8_t *wanted)
+{
+    plan->falling = 0;
+    plan->rising = ENTRIES;
+    plan->length = COUNT;
+    for (int i = 0; i < 4; i++) {
+        for (uint32_t at = stretches[i][0], size; at < stretches[i][1]; at += HEAD + size) {
+            size = wanted[at + 3];
+            if (tail_of(current + at, size) == tail_of(wanted + at, size))
+                continue;
+            plan->length += (int32_t)(HEAD + size);
+            if (number_in(current + at, size) < number_in(wanted + at, size))
+                plan->record[--plan->rising] = (uint16_t)at;
+            else
+                plan->record[plan->falling++] = (uint16_t)at;
+        }
+    }
+}
+
+/* Copies the records; behind them. */
+static uint8_t *copy_records(uint8_t *to, const uint8_t *wanted, const uint16_t *from, const uint16_t *end)
+{
+    for (; from < end; from++) {
+        const uint8_t *record = wanted + *from;
+        uint32_t size = record[3];
+        __builtin_memcpy(to, record, HEAD + 1);
+        if (size == 2)
+            to[HEAD + 1] = record[HEAD + 1];
+        else if (size == 4)
+            __builtin_memcpy(to + HEAD, record + HEAD, 4);
+        to += HEAD + size;
+    }
+    return to;
+}
+
+int32_t plain_restore_list(const uint8_t *current, size_t current_length, const uint8_t *wanted, size_t wanted_length, uint8_t *list,
+                           size_t list_length)
+{
+    struct plan plan;
+    uint8_t *record;
+    int32_t wrong = plain_check(current, current_length);
+    if (wrong)
+        return wrong;
+    wrong = plain_check(wanted, wanted_length);
+    if (wrong)
+        return wrong - 10;
+    make_plan(&plan, current, wanted);
+    if ((size_t)plan.length > list_length)
+        return NO_ROOM;
+    store32(list, plan.falling + ENTRIES - plan.rising);
+    record = copy_records(list + COUNT, wanted, plan.record + plan.rising, plan.record + ENTRIES);
+    copy_records(record, wanted, plan.record, plan.record + plan.falling);
+    return plan.length;
 }

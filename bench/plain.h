@@ -62,4 +62,6 @@ void plain_tick(struct plain *s, const int16_t *samples);
 int32_t plain_save(const struct plain *s, uint8_t *image, size_t length);
 int32_t plain_check(const uint8_t *image, size_t length);
 int32_t plain_load(struct plain *s, const uint8_t *image, size_t length);
+int32_t plain_restore_list(const uint8_t *current, size_t current_length, const uint8_t *wanted, size_t wanted_length, uint8_t *list,
+                           size_t list_length); /* as crates/gateway/restore_list.h has it */
 #endif

@@ -122,4 +122,14 @@ static const struct row rows[] = {
 };
 
 #define ROWS (sizeof rows / sizeof rows[0])
+
+/* What is only shown is no configuration, and the EC values are not either. */
+static inline int is_configured(const struct row *row) { return !row->fixed && row->name >> 8 != 0x2500; }
+
+/* The first sub with an entry: an ARRAY's sub 0 is its largest sub. */
+static inline uint32_t first_sub(const struct row *row)
+{
+    uint32_t first = row->name & 0xFF;
+    return first == 0 && row->largest ? 1 : first;
+}
 #endif

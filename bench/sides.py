@@ -1,12 +1,13 @@
 """Builds the sides that are compared, runs events on one, and counts the instructions of a run.
 
-A side is the program of drive.c over `plain` (plain.c), `valve` (the crate firmware) or `empty` (calls that
-do nothing). An event is a frame of 8 bytes, a tuple of four samples, or one of Save, Check, Load and Spoil, which
-are about the one image that a run has. Only the kit's compiler is used. On an
-x86-64 a run is counted by single steps, elsewhere by the log of the kit's emulator; both give every instruction.
+A side is the program of drive.c over `plain` (plain.c), `valve` (the crates firmware and gateway) or `empty` (calls
+that do nothing). An event is a frame of 8 bytes, a tuple of four samples, one of Save, Check, Load and Spoil, which are
+about the image of a run, or one of Keep, Make and Digest, which are about its list. Only the kit's compiler is used. On
+an x86-64 a run is counted by single steps, elsewhere by the log of the kit's emulator; both give every instruction.
 """
 
 import ctypes
+import fcntl
 import os
 import pathlib
 import platform
@@ -18,7 +19,7 @@ from typing import NamedTuple
 HERE = pathlib.Path(__file__).resolve().parent
 ROOT = HERE.parent
 OUT = ROOT / "target" / "bench"
-LIBRARY = ROOT / "target" / "staticlib" / "libfirmware.a"
+LIBRARIES = ROOT / "target" / "staticlib"
 
 
 def _tools():
@@ -33,7 +34,8 @@ C = "--target=x86_64-linux-gnu -std=c11 -O2 -ffp-contract=off -Wall -Wextra -Wer
 
 def compiled(source, out, *words):
     OUT.mkdir(parents=True, exist_ok=True)
-    places = ["-I%s" % place for place in (HERE, HERE / "include", ROOT / "crates" / "firmware")]
+    headers = (HERE, HERE / "include", ROOT / "crates" / "firmware", ROOT / "crates" / "gateway")
+    places = ["-I%s" % place for place in headers]
     subprocess.run([TOOLS / "clang", *C, *places, *words, "-c", source, "-o", OUT / out], check=True)
     return OUT / out
 
@@ -43,19 +45,36 @@ def linked(out, parts):
     return str(OUT / out)
 
 
-def library():
-    subprocess.run(["rt", "staticlib", "firmware"], check=True, cwd=ROOT)
-    return LIBRARY
+def _is_up_to_date(archive):
+    """Whether no file that it could be made of is younger."""
+    files = [ROOT / "crates.txt", *(ROOT / "crates").rglob("*")]
+    return archive.exists() and max(file.stat().st_mtime for file in files) < archive.stat().st_mtime
+
+
+def library(crate):
+    """The crate's functions for C. It is built once; tests that run at the same time wait for the one that builds."""
+    archive = LIBRARIES / ("lib%s.a" % crate)
+    LIBRARIES.mkdir(parents=True, exist_ok=True)
+    with open(LIBRARIES / "lock", "w") as lock:
+        fcntl.flock(lock, fcntl.LOCK_EX)
+        if not _is_up_to_date(archive):
+            built = subprocess.run(["rt", "staticlib", crate], cwd=ROOT)
+            if built.returncode != 0:
+                archive.unlink(missing_ok=True)  # so that nobody who waited takes it for good
+            built.check_returncode()
+    return archive
 
 
 def build(side):
     """The side's program."""
-    parts = [compiled(HERE / "drive.c", side + ".drive.o", "-DSIDE=" + side, '-DHEADER="%s.h"' % side)]
+    words = ["-DSIDE=" + side, '-DHEADER="%s.h"' % side]
+    parts = []
     if side == "plain":
-        parts.append(compiled(HERE / "plain.c", "plain.o"))
+        parts = [compiled(HERE / "plain.c", "plain.o")]
     if side == "valve":
-        parts.append(library())
-    return linked(side, parts)
+        words += ["-include", "restore_list.h", "-Dvalve_restore_list=restore_list"]
+        parts = [library("firmware"), library("gateway")]
+    return linked(side, [compiled(HERE / "drive.c", side + ".drive.o", *words), *parts])
 
 
 IMAGE_BYTES = 5207
@@ -80,7 +99,24 @@ class Spoil(NamedTuple):
     byte: int
 
 
+class Keep(NamedTuple):
+    """A copy of the image is kept, as the current one."""
+
+
+class Make(NamedTuple):
+    """The list from the current image to the image."""
+
+    current: int = IMAGE_BYTES
+    wanted: int = IMAGE_BYTES
+    room: int = IMAGE_BYTES
+
+
+class Digest(NamedTuple):
+    """Of the list's bytes, those behind it too."""
+
+
 LETTERS = {Save: b"W", Check: b"I", Load: b"L"}
+LIST_LETTERS = {Keep: b"K", Make: b"M", Digest: b"D"}
 
 
 def _event(event):
@@ -90,6 +126,8 @@ def _event(event):
         return struct.pack("<8sIB3x", b"B", *event)
     if type(event) in LETTERS:
         return struct.pack("<8sI4x", LETTERS[type(event)], event.length)
+    if type(event) in LIST_LETTERS:
+        return struct.pack("<8s8s", LIST_LETTERS[type(event)], struct.pack("<%dH" % len(event), *event))
     return struct.pack("<8s4h", b"T", *event)
 
 
@@ -100,8 +138,8 @@ def _input(events):
     return file
 
 
-def answers_and_image(program, events):
-    """The reply to each frame, empty where there is none, or the number returned; a tick's is empty. Then the image."""
+def answers_and_memory(program, events):
+    """The reply to each frame, empty where there is none, or the number returned; a tick's is empty. Then image and list."""
     with _input(events) as file:
         out = subprocess.run([*EMULATOR, program], stdin=file, stdout=subprocess.PIPE, check=True).stdout
     end = 16 * len(events)
@@ -109,7 +147,7 @@ def answers_and_image(program, events):
 
 
 def answers(program, events):
-    return answers_and_image(program, events)[0]
+    return answers_and_memory(program, events)[0]
 
 
 def _stepped(program, file):

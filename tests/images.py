@@ -39,10 +39,10 @@ class Difference(Exception):
 
 
 class Driver:
-    """The C program: a request in, its answer out."""
+    """A C program over these libraries: a request in, its answer out."""
 
-    def __init__(self, library):
-        program = sides.linked("images", [sides.compiled(HERE / "images.c", "images.o"), library])
+    def __init__(self, name, libraries):
+        program = sides.linked(name, [sides.compiled(HERE / (name + ".c"), name + ".o"), *libraries])
         self.process = subprocess.Popen([*sides.EMULATOR, program], stdin=subprocess.PIPE, stdout=subprocess.PIPE)
 
     def ask(self, request):
@@ -168,14 +168,12 @@ def compare_with_frames(bench):
     configuration = images_cases.some_configuration(bench.rng)
     bench.set_unit(b"")
     bench.read(image_of(configuration), 0)
-    names = model.Dictionary()
-    for entry, data in zip(names.configuration, configuration):
-        entry.value = images_model.value_of(entry, data)
+    names = images_model.dictionary_with(configuration)
     for entry in names.configuration:
         bench.serve(names, read_frame(entry))
     for _ in range(600):
         bench.serve(names, write_frame(bench.rng, bench.rng.choice(names.configuration)))
-    written = image_of([images_model.data_of(entry, entry.value) for entry in names.configuration])
+    written = image_of(images_model.configuration_of(names))
     bench.save(IMAGE_BYTES, written)
     bench.read(written, 0)
 
@@ -198,7 +196,7 @@ def main(arguments):
     parser.add_argument("--seed", default="1")
     parser.add_argument("--library", type=pathlib.Path)
     chosen = parser.parse_args(arguments)
-    driver = Driver(chosen.library or sides.library())
+    driver = Driver("images", [chosen.library or sides.library("firmware")])
     bench = Bench(driver, random.Random(chosen.seed))
     try:
         compare_all(bench, chosen.seed)

@@ -114,6 +114,20 @@ def look_up(image, index, sub):
     return b""
 
 
+# A unit that frames can be sent to.
+
+
+def dictionary_with(configuration):
+    names = model.Dictionary()
+    for entry, data in zip(names.configuration, configuration, strict=True):
+        entry.value = value_of(entry, data)
+    return names
+
+
+def configuration_of(names):
+    return [data_of(entry, entry.value) for entry in names.configuration]
+
+
 # The unit lent by C: one word for each entry, then the rest.
 
 

@@ -171,15 +171,14 @@ WRONG_READERS = (
 )
 
 
-def reader_of(changes):
-    """The model's read_image with its text changed, old and new in turn."""
-    text = SOURCE
+def changed_module(text, changes):
+    """A module with its text changed, old and new in turn."""
     for old, new in zip(changes[::2], changes[1::2]):
         assert text.count(old) == 1, old
         text = text.replace(old, new)
-    module = types.ModuleType("wrong_reader")
-    exec(compile(text, "wrong_reader", "exec"), module.__dict__)
-    return module.read_image
+    module = types.ModuleType("changed")
+    exec(compile(text, "changed", "exec"), module.__dict__)
+    return module
 
 
 class Answered:
@@ -198,7 +197,7 @@ class Answered:
 
 def noticed_at(answered, changes):
     """The number of the first case that the wrong reader answers otherwise, None where there is none."""
-    wrong = reader_of(changes)
+    wrong = changed_module(SOURCE, changes).read_image
     for number, (image, answer) in enumerate(answered, 1):
         if wrong(image) != answer:
             return number
