@@ -6,10 +6,10 @@ use Prim.Native.Nat.{ℕ, suc, _+_, _-_, _<_, _≤_}
 use native.Mathlib.Nat.{add-zero}
 use native.Mathlib.Omega.{arith}
 use lib.ListN.{length, getD, set, take, drop, length-append, length-drop, drop-of-length-le}
-use lib.Seq.{sets, drop-cons, length-take-le, length-sets}
+use lib.Seq.{sets, drop-cons, drop-drop, take-add, length-take-le, length-sets}
 use Rattle.little.specs.Little.{bytes}
 use Rattle.little.proofs.ByteLaws.{bytes-length}
-use Rattle.little.proofs.Parts.{sets-append}
+use Rattle.little.proofs.Parts.{placed, part, sets-append}
 use Rattle.records.specs.Walk.{size-in}
 use Rattle.changes.specs.Noting.{Stands, record-from}
 use Rattle.changes.proofs.ComparingLaws.{first-tells}
@@ -83,20 +83,65 @@ module _ (wanted places list₀ list : List ℕ) (at k : ℕ) (l : Left wanted p
 
 -- ---- the record at a place
 
-module _ (wanted : List ℕ) (place : ℕ) (s : Stands wanted place) {size : ℕ} (e : size ≡ 7 + getD wanted (place + 3) 0) where
-  pub size-told : size ≡ 7 + size-in (drop place wanted)
-  size-told = e ∙ ap (λ (n : ℕ). 7 + n) (first-tells wanted place s)
+pub eight-put : (list wanted : List ℕ) (at place : ℕ) → place + 8 ≤ length wanted
+    → set (set (set (set (set (set (set (set list at (getD wanted place 0)) (at + 1) (getD wanted (place + 1) 0)) (at + 2) (getD wanted (place + 2) 0)) (at + 3) (getD wanted (place + 3) 0))
+    (at + 4) (getD wanted (place + 4) 0)) (at + 5) (getD wanted (place + 5) 0)) (at + 6) (getD wanted (place + 6) 0)) (at + 7) (getD wanted (place + 7) 0)
+    ≡ sets list at (take 8 (drop place wanted))
+unfolding placed
+eight-put list wanted at place h =
+    let next : (n : ℕ) → n + 1 ≡ suc n = λ n. omega arith in
+    let two : (n : ℕ) → n + 2 ≡ suc (suc n) = λ n. omega arith in
+    let three : (n : ℕ) → n + 3 ≡ suc (suc (suc n)) = λ n. omega arith in
+    let four : (n : ℕ) → n + 4 ≡ suc (suc (suc (suc n))) = λ n. omega arith in
+    let five : (n : ℕ) → n + 5 ≡ suc (suc (suc (suc (suc n)))) = λ n. omega arith in
+    let six : (n : ℕ) → n + 6 ≡ suc (suc (suc (suc (suc (suc n))))) = λ n. omega arith in
+    let seven : (n : ℕ) → n + 7 ≡ suc (suc (suc (suc (suc (suc (suc n)))))) = λ n. omega arith in
+    rw (part wanted 8 place h, next at, next place, two at, two place, three at, three place, four at, four place, five at, five place, six at, six place, seven at, seven place)
 
-  pub record-part : take (place + size - place) (drop place wanted) ≡ record-from wanted place
-  unfolding record-from
-  record-part =
-      let same : place + size - place ≡ size = omega arith in
-      rw (same, size-told)
+module _ (wanted : List ℕ) (place : ℕ) (s : Stands wanted place) {end : ℕ} (e : end ≡ place + 7 + getD wanted (place + 3) 0) where
+  end-told : end ≡ place + 7 + size-in (drop place wanted)
+  end-told = e ∙ ap (λ (n : ℕ). place + 7 + n) (first-tells wanted place s)
 
-  pub record-long : length (record-from wanted place) ≡ size
+  -- at least eight bytes, all of them in the image
+  pub inside : (place + 8 ≤ end) × (end ≤ length wanted)
+  inside =
+      let some = s .some in
+      let within = s .inside in
+      (omega (arith, end-told), omega (arith, end-told))
+
+  pub record-long : length (record-from wanted place) ≡ end - place
   unfolding record-from
   record-long =
-      let inside = s .inside in
+      let within = s .inside in
       let room = length-drop place wanted in
-      let told = size-told in
-      length-take-le (7 + size-in (drop place wanted)) (drop place wanted) (omega arith) ∙ sym told
+      length-take-le (7 + size-in (drop place wanted)) (drop place wanted) (omega arith) ∙ omega (arith, end-told)
+
+  -- eight bytes, and the rest
+  split-record : record-from wanted place ≡ take 8 (drop place wanted) ++ take (end - (place + 8)) (drop (place + 8) wanted)
+  unfolding record-from
+  split-record =
+      let some = s .some in
+      let sum : 7 + size-in (drop place wanted) ≡ 8 + (end - (place + 8)) = omega (arith, end-told) in
+      ap (λ (n : ℕ). take n (drop place wanted)) sum ∙ take-add 8 (end - (place + 8)) (drop place wanted) ∙ rw (drop-drop 8 place wanted)
+
+  rest-long : length (take (end - (place + 8)) (drop (place + 8) wanted)) ≡ end - (place + 8)
+  rest-long = length-take-le (end - (place + 8)) (drop (place + 8) wanted) (omega (arith, inside .0, inside .1, length-drop (place + 8) wanted))
+
+  module _ (list : List ℕ) (at : ℕ) {list′ : List ℕ} (p : list′ ≡ sets list at (take 8 (drop place wanted))) where
+    pub kept-long : length list′ ≡ length list
+    kept-long = ap length p ∙ length-sets list at (take 8 (drop place wanted))
+
+    pub rest-room : at + length (record-from wanted place) ≤ length list → at + 8 + length (take (end - (place + 8)) (drop (place + 8) wanted)) ≤ length list′
+    rest-room h = let rest = rest-long in let long = record-long in let same = kept-long in omega (arith, inside .0)
+
+    pub record-put : {list″ : List ℕ} → list″ ≡ sets list′ (at + 8) (take (end - (place + 8)) (drop (place + 8) wanted)) → list″ ≡ sets list at (record-from wanted place)
+    record-put q =
+        let room = length-drop place wanted in
+        let eight = length-take-le 8 (drop place wanted) (omega (arith, inside .0, inside .1)) in
+        q ∙ rw (p, split-record) (sym (sets-append (take 8 (drop place wanted)) (take (end - (place + 8)) (drop (place + 8) wanted)) list at ∙ rw eight))
+
+    pub ninth-put : end ≡ place + 9 → {list″ : List ℕ} → list″ ≡ set list′ (at + 8) (getD wanted (place + 8) 0) → list″ ≡ sets list at (record-from wanted place)
+    unfolding placed
+    ninth-put n q =
+        let one : end - (place + 8) ≡ 1 = omega arith in
+        record-put (q ∙ ap (sets list′ (at + 8)) (sym (ap (λ (k : ℕ). take k (drop (place + 8) wanted)) one ∙ part wanted 1 (place + 8) (omega (arith, inside .1)))))

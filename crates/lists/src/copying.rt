@@ -2,7 +2,7 @@
 ghost use mathlib.Core.Path.{_≡_};
 ghost use mathlib.Core.List.{_++_, flatMap};
 ghost use Prim.Native.Nat.{_+_, _≤_, _<_};
-ghost use lib.ListN.{length};
+ghost use lib.ListN.{length, take, drop};
 ghost use lib.Seq.{sets};
 ghost use Rattle.little.specs.Little.{bytes};
 ghost use Rattle.changes.specs.Noting.{Stands, record-from};
@@ -20,14 +20,42 @@ fn put(list: &mut [u8], at: usize, part: &[u8])
     }
 }
 
-// The record that begins at a place of the image, and where the next one goes.
+// Eight bytes, which no record has fewer of: all are read before one is written, so that they can go as one word.
+fn put_eight(list: &mut [u8], at: usize, wanted: &[u8], place: usize)
+    requires { ⌜ (at + 8 ≤ length (now list)) × (place + 8 ≤ length (now wanted)) ⌝ }
+    ensures { λ _. ⌜ now (list .exit) ≡ sets (now (list .entry)) at (take 8 (drop place (now (wanted .entry)))) ⌝ }
+{
+    let a = wanted[place];
+    let b = wanted[place + 1];
+    let c = wanted[place + 2];
+    let d = wanted[place + 3];
+    let e = wanted[place + 4];
+    let f = wanted[place + 5];
+    let g = wanted[place + 6];
+    let h = wanted[place + 7];
+    list[at] = a;
+    list[at + 1] = b;
+    list[at + 2] = c;
+    list[at + 3] = d;
+    list[at + 4] = e;
+    list[at + 5] = f;
+    list[at + 6] = g;
+    list[at + 7] = h;
+}
+
+// The record that begins at a place of the image, and where the next one goes. Most records have two bytes of data.
 fn copy_record(wanted: &[u8], place: usize, list: &mut [u8], at: usize) -> usize
     requires { ⌜ Stands (now wanted) place × (at + length (record-from (now wanted) place) ≤ length (now list)) ⌝ }
     ensures { λ r. ⌜ (now (list .exit) ≡ sets (now (list .entry)) at (record-from (now (wanted .entry)) place)) × (r ≡ at + length (record-from (now (wanted .entry)) place)) ⌝ }
 {
-    let size = 7 + wanted[place + 3] as usize;
-    put(list, at, &wanted[place..place + size]);
-    at + size
+    let end = place + 7 + wanted[place + 3] as usize;
+    put_eight(list, at, wanted, place);
+    if end == place + 9 {
+        list[at + 8] = wanted[place + 8];
+        return at + 9;
+    }
+    put(list, at + 8, &wanted[place + 8..end]);
+    at + (end - place)
 }
 
 // The count in four bytes.
