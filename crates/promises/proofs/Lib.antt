@@ -6,4 +6,5 @@ pub mod Judged
 pub mod ReadBack
 pub mod Running
 pub mod Serving
+pub mod Underway
 pub mod Writing

@@ -1,14 +1,12 @@
 -- What is promised of a restore list: of the bytes and the number that `restore_list` leaves to C, sent to a unit as frames.
 -- Assumes nothing.
-use Prim.Native.Nat.{ℕ, zero, suc, _+_, _-_, _<_, _≤_}
+use Prim.Native.Nat.{ℕ, _+_, _<_, _≤_}
 use mathlib.Core.Logic.{_⊎_}
 use mathlib.Core.Path.{_≡_}
 use mathlib.Core.List.{List, [], _∷_, _++_}
-use lib.Dec.{eqb}
 use lib.IntN.{ℤ, pos, negsuc, negℤ}
-use lib.ListN.{length, getD, take, drop, replicate}
+use lib.ListN.{length, getD, take, drop}
 use Rattle.little.specs.Little.{little, Bytes}
-use Rattle.numbers.specs.Choice.{first}
 use Rattle.dictionary.specs.Names.{configured}
 use Rattle.dictionary.specs.Unit.{unit-size}
 use Rattle.frames.specs.Answers.{answer}
@@ -23,25 +21,10 @@ use Rattle.reading.specs.Reading.{reading, configuration-in}
 use Rattle.sdo.specs.Served.{after}
 use Rattle.sending.specs.Sending.{apart}
 use Rattle.gateway.specs.Restored.{Restored}
+use Rattle.delivery.specs.Delivery.{frames-in}
 use Rattle.promises.specs.Running.{Event, frame, tick, happens, run}
 
--- ---- a list as it is sent
-
--- "Writes of 4, 2, 1 bytes are 23h, 2Bh, 2Fh"
-unfoldable pub write-command : ℕ → ℕ
-write-command n = first (eqb n 4) 0x23 (first (eqb n 2) 0x2B 0x2F)
-
--- the record at the front of some bytes as a frame: command, name, data, zeros
-unfoldable pub frame-of : List ℕ → List ℕ
-frame-of rest = write-command (size-in rest) ∷ take 3 rest ++ take (size-in rest) (drop 7 rest) ++ replicate (4 - size-in rest) 0
-
--- the frames of so many records, each as long as it says
-unfoldable pub frames-from : ℕ → List ℕ → List (List ℕ)
-frames-from zero rest = []
-frames-from (suc n) rest = frame-of rest ∷ frames-from n (drop (7 + size-in rest) rest)
-
-unfoldable pub frames-in : List ℕ → List (List ℕ)
-frames-in list = frames-from (little (take 4 list)) (drop 4 list)
+-- ---- a list as it is sent: its records as frames are `frames-in` of `delivery`
 
 -- the bytes that the returned number counts
 unfoldable pub list-left : ℤ → List ℕ → List ℕ
