@@ -3,7 +3,7 @@
 use mathlib.Core.Path.{_≡_, refl, sym, ap, _∙_, subst}
 use mathlib.Core.Bool.{true, and-eq-true-iff}
 use mathlib.Core.List.{List, [], _∷_, _++_, map, flatMap}
-use Prim.Native.Nat.{ℕ, _+_, _^_, _<_, _≤_}
+use Prim.Native.Nat.{ℕ, _+_, _<_, _≤_}
 use native.Mathlib.Omega.{arith}
 use lib.Dec.{ltb}
 use lib.ListN.{length, getD, take, drop, length-append, length-drop, take-append-drop}
@@ -24,7 +24,7 @@ use Rattle.records.proofs.RightLaws.{Right}
 use Rattle.reading.specs.Reading.{reading, configuration-in}
 use Rattle.reading.proofs.Acceptance.{accepted}
 use Rattle.reading.proofs.PlaceLaws.{counted, value-at, right-at}
-use Rattle.sending.specs.Sending.{stretch, sends, apart, total}
+use Rattle.sending.specs.Sending.{stretch, sends, total}
 use Rattle.sending.proofs.Counting.{all-inside, total-within}
 use Rattle.sending.proofs.Totals.{total-length}
 use Rattle.changes.specs.Changes.{changes, list-of, place-of}

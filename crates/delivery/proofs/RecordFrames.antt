@@ -2,7 +2,7 @@
 -- Assumes nothing.
 use mathlib.Core.Path.{_≡_, refl, sym, ap, _∙_}
 use mathlib.Core.List.{List, [], _∷_, _++_}
-use Prim.Native.Nat.{ℕ, zero, suc, _+_, _-_, _<_, _≤_}
+use Prim.Native.Nat.{ℕ, zero, suc, _-_, _<_, _≤_}
 use native.Mathlib.Omega.{arith}
 use lib.ListN.{length, getD, take, drop, replicate, length-append, length-drop, length-replicate}
 use lib.Seq.{take-at, length-take-le}
@@ -16,10 +16,8 @@ use Rattle.dictionary.specs.declared.types.Found.the-variants.{At}
 use Rattle.dictionary.specs.declared.types.Kind.{Kind}
 use Rattle.dictionary.specs.declared.types.Kind.the-variants.{Unsigned8, Integer16, Unsigned16, Real32}
 use Rattle.entries.specs.Judge.{judged}
-use Rattle.frames.specs.Answers.{size-of, stored, writing, obeyed, answer}
+use Rattle.frames.specs.Answers.{size-of, stored, writing, answer}
 use Rattle.frames.specs.Frames.{index-in, sub-in, data-in, command-of}
-use Rattle.frames.specs.declared.types.Answer.{Answer}
-use Rattle.frames.specs.declared.types.Command.{Command}
 use Rattle.frames.specs.declared.types.Command.the-variants.{Write}
 use Rattle.frames.proofs.AnswerLaws.{fitting, a-write, spoken}
 use Rattle.records.specs.Layout.{Listed, size}

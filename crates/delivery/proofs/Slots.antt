@@ -1,10 +1,11 @@
--- What an image calls a slot, computed over all of them: the name is found at the slot, the size is its type's.
+-- What an image calls a slot, computed over all of them: the name is found at the slot, the range is the slot's own.
 -- Assumes nothing.
-use mathlib.Core.Path.{_≡_, refl}
+use mathlib.Core.Path.{_≡_, refl, sym, ap}
 use Prim.Native.Nat.{ℕ, _+_, _<_}
 use Rattle.dictionary.specs.Names.{configured, find}
 use Rattle.dictionary.specs.Rows.{width}
 use Rattle.dictionary.specs.declared.types.Found.the-variants.{At}
+use Rattle.dictionary.specs.declared.types.Range.{Range}
 use Rattle.dictionary.proofs.Tabulate.{tabulate}
 use Rattle.roles.specs.Values.{range-of}
 use Rattle.configuration.proofs.Configuration.{at-each}
@@ -19,12 +20,16 @@ names-computed = refl
 pub named : (slot : ℕ) → slot < configured → find (entry listed slot .index) (entry listed slot .sub) ≡ At slot
 named = at-each (λ slot. find (entry listed slot .index) (entry listed slot .sub)) At names-computed
 
-sizes-computed : tabulate configured 0 size-of ≡ tabulate configured 0 (λ slot. size (entry listed slot))
-unfolding tabulate configured size-of range-of width size entry listed
-sizes-computed = refl
+ranges-computed : tabulate configured 0 (λ slot. entry listed slot .range) ≡ tabulate configured 0 range-of
+unfolding tabulate configured range-of entry listed
+ranges-computed = refl
+
+pub own-range : (slot : ℕ) → slot < configured → entry listed slot .range ≡ range-of slot
+own-range = at-each (λ slot. entry listed slot .range) range-of ranges-computed
 
 pub own-size : (slot : ℕ) → slot < configured → size-of slot ≡ size (entry listed slot)
-own-size = at-each size-of (λ slot. size (entry listed slot)) sizes-computed
+unfolding size-of size
+own-size slot h = ap (λ (r : Range). width (r .kind)) (sym (own-range slot h))
 
 -- all records together
 pub all-bytes : total (λ slot. 7 + size (entry listed slot)) (stretch 0 configured) ≡ 5203

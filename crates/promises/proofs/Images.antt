@@ -51,7 +51,7 @@ module _ {words buffer buffer′ : List ℕ} {w : Outcome} (s : Written words bu
       go true q h = h
       go false q h = absurd (not-good (sym q))
 
-sizes : configured ≤ unit-size
+pub sizes : configured ≤ unit-size
 unfolding configured unit-size flags-at runs-at signals-at words
 sizes = omega arith
 
