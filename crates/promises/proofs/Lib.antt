@@ -1,6 +1,7 @@
 pub mod Accepted
 pub mod Bench
 pub mod ByteLaws
+pub mod Demands
 pub mod Images
 pub mod Judged
 pub mod Listed
