@@ -122,7 +122,9 @@ module _ (image : List ℕ) (g : reading image ≡ Good) where
       let both = and-eq-true-iff (ltb s configured) (every (λ s. ltb s configured) slots) .0 e in
       let inside = ltb-true s configured (both .0) in
       let rest = flatMap (record-in image) slots in
-      rw (first-frame image g s inside rest, past image g s inside rest, frames-are slots (both .1))
+      ap (λ (f : List ℕ). f ∷ frames-from (length slots) (drop (7 + size-in (record-in image s ++ rest)) (record-in image s ++ rest))) (first-frame image g s inside rest)
+      ∙ ap (λ (l : List ℕ). frame-at image s ∷ frames-from (length slots) l) (past image g s inside rest)
+      ∙ ap (λ (fs : List (List ℕ)). frame-at image s ∷ fs) (frames-are slots (both .1))
 
   pub records-long : (slots : List ℕ) → every (λ s. ltb s configured) slots ≡ true → length (flatMap (record-in image) slots) ≡ total (λ s. 7 + size (entry listed s)) slots
   unfolding every flatMap total

@@ -1,4 +1,4 @@
--- A call of `restore_list` that succeeds: its number, its bytes, and the list that they are.
+-- A call of `restore_list`: what answers for a wanted image that is refused, and for two good ones the number, the bytes, and the list that they are.
 -- Assumes nothing.
 use mathlib.Core.Path.{_≡_, ap, _∙_}
 use mathlib.Core.List.{List, _++_}
@@ -9,15 +9,21 @@ use lib.ListN.{length, take, drop}
 use lib.Seq.{take-append-seam}
 use borrow.Author.Tests.{le-ltb}
 use Rattle.numbers.specs.Choice.{first}
-use Rattle.records.specs.declared.types.Outcome.the-variants.{Good}
+use Rattle.records.specs.declared.types.Outcome.the-variants.{Good, Refused}
+use Rattle.records.specs.declared.types.Refusal.{Refusal}
 use Rattle.reading.specs.Reading.{reading}
 use Rattle.changes.specs.Changes.{list-of}
 use Rattle.lists.specs.Listing.{made, left-by}
 use Rattle.lists.specs.declared.types.Made.{Made}
-use Rattle.lists.specs.declared.types.Made.the-variants.{Done}
+use Rattle.lists.specs.declared.types.Made.the-variants.{Done, Wanted}
 use Rattle.gateway.specs.Restored.{told, outcome, Restored}
 use Rattle.delivery.proofs.ListFrames.{list-short}
 use Rattle.promises.specs.Restoring.{list-left}
+
+-- the wanted image's refusal is the answer, if the current one is good
+pub wanted-refused : (current wanted buffer : List ℕ) {why : Refusal} → reading current ≡ Good → reading wanted ≡ Refused why → outcome current wanted buffer ≡ Wanted why
+unfolding outcome made
+wanted-refused current wanted buffer g e = rw (g, e)
 
 module _ {current wanted buffer buffer′ : List ℕ} {r : ℤ}
     (first-good : reading current ≡ Good) (second-good : reading wanted ≡ Good) (room : 5207 ≤ length buffer) (called : Restored current wanted buffer buffer′ r) where

@@ -21,7 +21,7 @@ use Rattle.sending.specs.Sending.{apart}
 use Rattle.sending.proofs.Counting.{sends-apart, none-apart, apart-same}
 use Rattle.sending.proofs.Underway.{either}
 use Rattle.changes.specs.Changes.{changes, list-of}
-use Rattle.lists.specs.Listing.{made, left-by}
+use Rattle.lists.specs.Listing.{left-by}
 use Rattle.lists.specs.declared.types.Made.{Made}
 use Rattle.lists.specs.declared.types.Made.the-variants.{Done, Current, Wanted, NoRoom}
 use Rattle.gateway.specs.Restored.{told, outcome}
@@ -29,7 +29,7 @@ use Rattle.delivery.specs.Delivery.{frames-in}
 use Rattle.delivery.proofs.ListFrames.{frame-at, count-is, list-short, list-frames}
 use Rattle.promises.specs.Running.{run}
 use Rattle.promises.specs.Restoring.{list-left, Sent, Restoring, Always-fits, Each-accepted, Arrives, Cut-anywhere, Count-is-difference, Shortest, Reaches, Turned-away, Turned-away-exactly, Refused-lists-write-nothing, One-list}
-use Rattle.promises.proofs.Listed.{number-is, buffer-is, left-is}
+use Rattle.promises.proofs.Listed.{wanted-refused, number-is, buffer-is, left-is}
 use Rattle.promises.proofs.Reached.{only-valid, complete-good, reaches}
 use Rattle.promises.proofs.Spent.{spent}
 use Rattle.promises.proofs.Underway.{Going, begun, ended, next, further, front-is}
@@ -119,7 +119,7 @@ no-list n why e =
     omega arith
 
 pub turned-away-exactly : Turned-away-exactly
-unfolding outcome made told
+unfolding told
 turned-away-exactly current wanted buffer buffer′ r b c g complete room called = (
   λ t reach.
       let good = complete-good wanted complete (only-valid reach (valid-in current b g)) in
@@ -129,7 +129,7 @@ turned-away-exactly current wanted buffer buffer′ r b c g complete room called
   where
     by-reading : (Reaches (configuration-in current) (configuration-in wanted) → ⊥) → (o : Outcome) → reading wanted ≡ o → Turned-away r
     by-reading never Good e = absurd (never (reaches current wanted e c (valid-in current b g) (valid-in wanted c e)))
-    by-reading never (Refused why) e = record { why = why; told = called .answered ∙ rw (g, e) }
+    by-reading never (Refused why) e = record { why = why; told = called .answered ∙ ap told (wanted-refused current wanted buffer g e) }
 
 pub refused-lists-write-nothing : Refused-lists-write-nothing
 unfolding told left-by
