@@ -16,7 +16,7 @@ use Rattle.dictionary.specs.Names.{configured}
 use Rattle.configuration.proofs.Configuration.{can-be-written}
 use Rattle.naming.proofs.NameLaws as Names
 use Rattle.entries.specs.Judge.{judged}
-use Rattle.frames.specs.Answers.{stored, answer}
+use Rattle.frames.specs.Answers.{size-of, stored, answer}
 use Rattle.records.specs.Layout.{listed, size, entry, offset, record-in}
 use Rattle.records.specs.Walk.{size-in, data-in}
 use Rattle.records.specs.declared.types.Outcome.the-variants.{Good}
@@ -126,12 +126,14 @@ module _ (image : List ℕ) (g : reading image ≡ Good) where
       ∙ ap (λ (l : List ℕ). frame-at image s ∷ frames-from (length slots) l) (past image g s inside rest)
       ∙ ap (λ (fs : List (List ℕ)). frame-at image s ∷ fs) (frames-are slots (both .1))
 
-  pub records-long : (slots : List ℕ) → every (λ s. ltb s configured) slots ≡ true → length (flatMap (record-in image) slots) ≡ total (λ s. 7 + size (entry listed s)) slots
+  pub records-long : (slots : List ℕ) → every (λ s. ltb s configured) slots ≡ true → length (flatMap (record-in image) slots) ≡ total (λ s. 7 + size-of s) slots
   unfolding every flatMap total
   records-long [] e = refl
   records-long (s ∷ slots) e =
       let both = and-eq-true-iff (ltb s configured) (every (λ s. ltb s configured) slots) .0 e in
-      let one = record-long image g s (ltb-true s configured (both .0)) in
+      let inside = ltb-true s configured (both .0) in
+      let one = record-long image g s inside in
+      let own = own-size s inside in
       let more = records-long slots (both .1) in
       length-append (record-in image s) (flatMap (record-in image) slots) ∙ omega arith
 
@@ -155,19 +157,21 @@ module _ (current wanted : List ℕ) where
     unfolding changes
     inside = all-inside (configuration-in current) (configuration-in wanted)
 
-    -- "a buffer of 5,207 bytes" is always enough
-    pub list-short : length (list-of current wanted) ≤ 5207
-    unfolding list-of changes
-    list-short =
+    pub list-long : length (list-of current wanted) ≡ 4 + total (λ s. 7 + size-of s) (changes current wanted)
+    unfolding list-of
+    list-long =
         let slots = changes current wanted in
         omega (
           arith,
           length-append (bytes 4 (length slots)) (flatMap (record-in wanted) slots),
           bytes-length 4 (length slots),
           records-long wanted g slots inside,
-          total-within (configuration-in current) (configuration-in wanted) (λ s. 7 + size (entry listed s)),
-          all-bytes,
         )
+
+    -- "a buffer of 5,207 bytes" is always enough
+    pub list-short : length (list-of current wanted) ≤ 5207
+    unfolding changes
+    list-short = omega (arith, list-long, total-within (configuration-in current) (configuration-in wanted) (λ s. 7 + size-of s), all-bytes)
 
     pub list-frames : frames-in (list-of current wanted) ≡ map (frame-at wanted) (changes current wanted)
     unfolding frames-in list-of

@@ -32,6 +32,6 @@ unfolding size-of size
 own-size slot h = ap (λ (r : Range). width (r .kind)) (sym (own-range slot h))
 
 -- all records together
-pub all-bytes : total (λ slot. 7 + size (entry listed slot)) (stretch 0 configured) ≡ 5203
-unfolding total stretch slots-from configured size width entry listed
+pub all-bytes : total (λ slot. 7 + size-of slot) (stretch 0 configured) ≡ 5203
+unfolding total stretch slots-from configured size-of range-of width
 all-bytes = refl

@@ -9,6 +9,7 @@ use lib.ListN.{length, take, drop, length-map}
 use lib.Seq.{drop-append-seam}
 use Rattle.little.specs.Little.{little, bytes, Bytes}
 use Rattle.entries.specs.Valid.{Valid}
+use Rattle.frames.specs.Answers.{size-of}
 use Rattle.frames.specs.Frames.{reply, reply-to}
 use Rattle.records.specs.Layout.{record-in}
 use Rattle.records.specs.Walk.{number}
@@ -17,8 +18,9 @@ use Rattle.records.specs.declared.types.Outcome.the-variants.{Good, Refused}
 use Rattle.reading.specs.Reading.{reading, configuration-in}
 use Rattle.reading.proofs.Acceptance.{accepted}
 use Rattle.image.proofs.ImageTrips.{configuration-valid}
-use Rattle.sending.specs.Sending.{apart}
-use Rattle.sending.proofs.Counting.{sends-apart, none-apart, apart-same}
+use Rattle.sending.specs.Sending.{sends, apart}
+use Rattle.sending.proofs.Counting.{sends-apart}
+use Rattle.sending.proofs.Totals.{total-length}
 use Rattle.sending.proofs.Underway.{either}
 use Rattle.changes.specs.Changes.{changes, list-of}
 use Rattle.lists.specs.Listing.{left-by}
@@ -26,13 +28,12 @@ use Rattle.lists.specs.declared.types.Made.{Made}
 use Rattle.lists.specs.declared.types.Made.the-variants.{Done, Current, Wanted, NoRoom}
 use Rattle.gateway.specs.Restored.{told, outcome}
 use Rattle.delivery.specs.Delivery.{frames-in}
-use Rattle.delivery.proofs.ListFrames.{frame-at, count-is, list-short, list-frames}
-use Rattle.promises.specs.Running.{run}
-use Rattle.promises.specs.Restoring.{list-left, Sent, Restoring, Always-fits, Each-accepted, Arrives, Cut-anywhere, Count-is-difference, Shortest, Reaches, Turned-away, Turned-away-exactly, Refused-lists-write-nothing, One-list}
+use Rattle.delivery.proofs.ListFrames.{frame-at, count-is, list-long, list-short, list-frames}
+use Rattle.promises.specs.Restoring.{list-left, Sent, Restoring, Always-fits, Each-accepted, Arrives, Cut-anywhere, Count-is-difference, one-record, record-bytes, Shortest, Reaches, Turned-away, Turned-away-exactly, Refused-lists-write-nothing, One-list}
 use Rattle.promises.proofs.Listed.{wanted-refused, number-is, buffer-is, left-is}
 use Rattle.promises.proofs.Reached.{only-valid, complete-good, reaches}
-use Rattle.promises.proofs.Spent.{spent}
-use Rattle.promises.proofs.Underway.{Going, begun, ended, next, further, front-is}
+use Rattle.promises.proofs.Spent.{paid}
+use Rattle.promises.proofs.Underway.{Going, begun, ended, next, further}
 
 -- ---- a call, and a unit that holds the current configuration
 
@@ -98,16 +99,13 @@ count-is-difference current wanted buffer buffer′ r unit h = (
 )
 
 pub shortest : Shortest
+unfolding changes
 shortest current wanted buffer buffer′ r unit h events e =
     let a = configuration-in current in
     let b = configuration-in wanted in
-    omega (
-      arith,
-      frames-many h,
-      apart-same unit b a b (front-is unit (h .holds .front)) (λ k l. refl),
-      spent events unit b,
-      none-apart (run events unit) b (front-is (run events unit) e),
-    )
+    let records = paid (λ s. 1) one-record (λ slot word. omega arith) a b unit events (h .holds .front) e in
+    let all = paid (λ s. 7 + size-of s) record-bytes (λ slot word. omega arith) a b unit events (h .holds .front) e in
+    (omega (arith, frames-many h, many h, total-length (sends a b)), omega (arith, ap length (the-list h), list-long current wanted (h .good-second)))
 
 -- ---- what is turned away
 

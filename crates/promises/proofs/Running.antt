@@ -21,7 +21,7 @@ use Rattle.configuration.proofs.Start.{valid-at-start}
 use Rattle.frames.specs.Answers.{answer}
 use Rattle.frames.specs.declared.types.Answer.{Answer}
 use Rattle.frames.specs.declared.types.Answer.the-variants.{Silent, Aborted, Value, Written}
-use Rattle.sdo.specs.Served.{Served, after}
+use Rattle.sdo.specs.Served.{after}
 use Rattle.unit.specs.Entry.{entry}
 use Rattle.inputs.specs.Inputs.{memory}
 use Rattle.controller.specs.Tick.{anyFlagged, ticked}

@@ -9,7 +9,7 @@ use lib.ListN.{length, getD, take, drop}
 use Rattle.little.specs.Little.{little, Bytes}
 use Rattle.dictionary.specs.Names.{configured}
 use Rattle.dictionary.specs.Unit.{unit-size}
-use Rattle.frames.specs.Answers.{answer}
+use Rattle.frames.specs.Answers.{size-of, answer}
 use Rattle.frames.specs.Frames.{name-in, reply-to}
 use Rattle.frames.specs.declared.types.Answer.{Answer}
 use Rattle.frames.specs.declared.types.Answer.the-variants.{Silent, Aborted, Value, Written}
@@ -93,26 +93,35 @@ Count-is-difference =
     → (little (take 4 buffer′) ≡ apart (configuration-in current) (configuration-in wanted))
     × (length (frames-in (list-left r buffer′)) ≡ apart (configuration-in current) (configuration-in wanted))
 
--- how many frames of a list of events are accepted writes
-abbrev pub one-written : Answer → ℕ
-one-written Silent = 0
-one-written (Aborted a) = 0
-one-written (Value word n) = 0
-one-written (Written slot word) = 1
+-- an accepted write counts as one record
+abbrev pub one-record : Answer → ℕ
+one-record Silent = 0
+one-record (Aborted a) = 0
+one-record (Value word n) = 0
+one-record (Written slot word) = 1
 
-abbrev pub written-by : Event → List ℕ → ℕ
-written-by (frame f room) unit = one-written (answer unit f room)
-written-by (tick samples) unit = 0
+-- or as the bytes that the record has in a list
+abbrev pub record-bytes : Answer → ℕ
+record-bytes Silent = 0
+record-bytes (Aborted a) = 0
+record-bytes (Value word n) = 0
+record-bytes (Written slot word) = 7 + size-of slot
 
-unfoldable pub writes : List Event → List ℕ → ℕ
-writes [] unit = 0
-writes (e ∷ es) unit = written-by e unit + writes es (happens e unit)
+-- what the accepted writes of a list of events come to
+abbrev pub written-by : (Answer → ℕ) → Event → List ℕ → ℕ
+written-by worth (frame f room) unit = worth (answer unit f room)
+written-by worth (tick samples) unit = 0
 
--- "It is as short as any such list can be": whatever takes the unit from the first to the second has at least as many accepted writes
+unfoldable pub writes : (Answer → ℕ) → List Event → List ℕ → ℕ
+writes worth [] unit = 0
+writes worth (e ∷ es) unit = written-by worth e unit + writes worth es (happens e unit)
+
+-- "It is as short as any such list can be": whatever takes the unit from the first to the second has at least as many accepted writes, and their records as many bytes
 abbrev pub Shortest : Type 0
 Shortest =
     (current wanted buffer buffer′ : List ℕ) (r : ℤ) (unit : List ℕ) → Restoring current wanted buffer buffer′ r unit
-    → (events : List Event) → take configured (run events unit) ≡ configuration-in wanted → length (frames-in (list-left r buffer′)) ≤ writes events unit
+    → (events : List Event) → take configured (run events unit) ≡ configuration-in wanted
+    → (length (frames-in (list-left r buffer′)) ≤ writes one-record events unit) × (length (list-left r buffer′) ≤ 4 + writes record-bytes events unit)
 
 -- ---- what is turned away
 
