@@ -152,11 +152,11 @@ module _ (current wanted : List ℕ) where
       let n = length (changes current wanted) in
       ap little (take-at (bytes 4 n) rest 4 (bytes-length 4 n)) ∙ read-back 4 n (omega (arith, few))
 
-  module _ (g : reading wanted ≡ Good) where
-    inside : every (λ s. ltb s configured) (changes current wanted) ≡ true
-    unfolding changes
-    inside = all-inside (configuration-in current) (configuration-in wanted)
+  inside : every (λ s. ltb s configured) (changes current wanted) ≡ true
+  unfolding changes
+  inside = all-inside (configuration-in current) (configuration-in wanted)
 
+  module _ (g : reading wanted ≡ Good) where
     pub list-long : length (list-of current wanted) ≡ 4 + total (λ s. 7 + size-of s) (changes current wanted)
     unfolding list-of
     list-long =

@@ -89,37 +89,36 @@ complete-good image c v =
 
 -- ---- a list on its way, to its end
 
-module _ (current wanted : List ℕ) where
-  module _ (good : reading wanted ≡ Good) (b : Bytes wanted) (first : Valid (configuration-in current)) (second : Valid (configuration-in wanted)) where
-    record Arriving (frames : List (List ℕ)) (unit : List ℕ) : Type 0 where
-      unit′ : List ℕ
-      accepts : Accepts frames unit unit′
-      end : Going current wanted [] unit′
+module _ (current wanted : List ℕ) (good : reading wanted ≡ Good) (b : Bytes wanted) (first : Valid (configuration-in current)) (second : Valid (configuration-in wanted)) where
+  record Arriving (frames : List (List ℕ)) (unit : List ℕ) : Type 0 where
+    unit′ : List ℕ
+    accepts : Accepts frames unit unit′
+    end : Going current wanted [] unit′
 
-    arriving : (frames : List (List ℕ)) (unit : List ℕ) → Going current wanted frames unit → Arriving frames unit
-    unfolding after
-    arriving [] unit g = record { unit′ = unit; accepts = Accepts.end; end = g }
-    arriving (f ∷ frames) unit g =
-        let n = next current wanted good first second g in
-        let word = getD (configuration-in wanted) (n .slot) 0 in
-        let more = arriving frames (after unit (Written (n .slot) word)) (n .then) in
-        record {
-          unit′ = more .unit′;
-          accepts = Accepts.next (n .slot) word (subst Bytes (n .is) (frame-bytes wanted good (n .slot) (n .inside) b)) (n .answers 8 (omega arith)) (more .accepts);
-          end = more .end;
-        }
+  arriving : (frames : List (List ℕ)) (unit : List ℕ) → Going current wanted frames unit → Arriving frames unit
+  unfolding after
+  arriving [] unit g = record { unit′ = unit; accepts = Accepts.end; end = g }
+  arriving (f ∷ frames) unit g =
+      let n = next current wanted good first second g in
+      let word = getD (configuration-in wanted) (n .slot) 0 in
+      let more = arriving frames (after unit (Written (n .slot) word)) (n .then) in
+      record {
+        unit′ = more .unit′;
+        accepts = Accepts.next (n .slot) word (subst Bytes (n .is) (frame-bytes wanted good (n .slot) (n .inside) b)) (n .answers 8 (omega arith)) (more .accepts);
+        end = more .end;
+      }
 
-    -- from a unit that holds the current configuration, and for the rest is as at start
-    pub reaches : Reaches (configuration-in current) (configuration-in wanted)
-    reaches =
-        let end = arriving (frames-in (list-of current wanted)) unit (begun current wanted good before) in
-        record { unit = unit; unit′ = end .unit′; frames = frames-in (list-of current wanted); before = before; accepts = end .accepts; after = ended current wanted (end .end) }
-      where
-        unit : List ℕ
-        unit = configuration-in current ++ drop configured at-start
+  -- from a unit that holds the current configuration, and for the rest is as at start
+  pub reaches : Reaches (configuration-in current) (configuration-in wanted)
+  reaches =
+      let end = arriving (frames-in (list-of current wanted)) unit (begun current wanted good before) in
+      record { unit = unit; unit′ = end .unit′; frames = frames-in (list-of current wanted); before = before; accepts = end .accepts; after = ended current wanted (end .end) }
+    where
+      unit : List ℕ
+      unit = configuration-in current ++ drop configured at-start
 
-        before : Holds unit (configuration-in current)
-        before =
-            let all = length-append (configuration-in current) (drop configured at-start) in
-            let more = length-drop configured at-start in
-            record { long = omega (arith, all-words current, size-at-start, sizes); front = take-at (configuration-in current) (drop configured at-start) configured (all-words current) }
+      before : Holds unit (configuration-in current)
+      before =
+          let all = length-append (configuration-in current) (drop configured at-start) in
+          let more = length-drop configured at-start in
+          record { long = omega (arith, all-words current, size-at-start, sizes); front = take-at (configuration-in current) (drop configured at-start) configured (all-words current) }

@@ -50,6 +50,9 @@ module _ {current wanted buffer buffer′ : List ℕ} {r : ℤ} {unit : List ℕ
   the-list : list-left r buffer′ ≡ list-of current wanted
   the-list = left-is (h .good-first) (h .good-second) (h .room) (h .called)
 
+  the-buffer : buffer′ ≡ list-of current wanted ++ drop (length (list-of current wanted)) buffer
+  the-buffer = buffer-is (h .good-first) (h .good-second) (h .room) (h .called)
+
   -- whatever was sent, and came between
   there : {sent rest : List (List ℕ)} {unit′ : List ℕ} → frames-in (list-left r buffer′) ≡ sent ++ rest → Sent sent unit unit′ → Going current wanted rest unit′
   there e s =
@@ -59,6 +62,14 @@ module _ {current wanted buffer buffer′ : List ℕ} {r : ℤ} {unit : List ℕ
   many : length (changes current wanted) ≡ apart (configuration-in current) (configuration-in wanted)
   unfolding changes
   many = sends-apart (configuration-in current) (configuration-in wanted)
+
+  counted : little (take 4 buffer′) ≡ apart (configuration-in current) (configuration-in wanted)
+  unfolding list-of
+  counted =
+      let head = bytes 4 (length (changes current wanted)) in
+      let records = flatMap (record-in wanted) (changes current wanted) in
+      let behind = drop (length (list-of current wanted)) buffer in
+      ap (λ (l : List ℕ). little (take 4 l)) (the-buffer ∙ append-assoc head records behind) ∙ count-is current wanted (records ++ behind) ∙ many
 
   frames-many : length (frames-in (list-left r buffer′)) ≡ apart (configuration-in current) (configuration-in wanted)
   frames-many =
@@ -71,7 +82,7 @@ always-fits current wanted buffer buffer′ r unit h =
     rw (the-list h) (
       number-is (h .good-first) (h .good-second) (h .room) (h .called),
       list-short current wanted (h .good-second),
-      ap (drop (length (list-of current wanted))) (buffer-is (h .good-first) (h .good-second) (h .room) (h .called))
+      ap (drop (length (list-of current wanted))) (the-buffer h)
           ∙ drop-append-seam (list-of current wanted) (drop (length (list-of current wanted)) buffer),
     )
 
@@ -88,15 +99,7 @@ pub cut-anywhere : Cut-anywhere
 cut-anywhere current wanted buffer buffer′ r unit h sent rest unit′ e s slot l = either (there h e s .left) slot l
 
 pub count-is-difference : Count-is-difference
-unfolding list-of
-count-is-difference current wanted buffer buffer′ r unit h = (
-  ap (λ (l : List ℕ). little (take 4 l)) (
-      buffer-is (h .good-first) (h .good-second) (h .room) (h .called)
-      ∙ append-assoc (bytes 4 (length (changes current wanted))) (flatMap (record-in wanted) (changes current wanted)) (drop (length (list-of current wanted)) buffer)
-      )
-      ∙ count-is current wanted (flatMap (record-in wanted) (changes current wanted) ++ drop (length (list-of current wanted)) buffer) ∙ many h,
-  frames-many h,
-)
+count-is-difference current wanted buffer buffer′ r unit h = (counted h, frames-many h)
 
 pub shortest : Shortest
 unfolding changes
