@@ -11,7 +11,6 @@ use lib.Seq.{take-at}
 use Rattle.numbers.specs.Choice.{first}
 use Rattle.dictionary.specs.Names.{configured, words}
 use Rattle.dictionary.specs.Unit.{unit-size, flags-at, runs-at, signals-at}
-use Rattle.entries.specs.Valid.{Valid}
 use Rattle.roles.specs.Values.{at-start}
 use Rattle.records.specs.Layout.{image-of}
 use Rattle.records.specs.declared.types.Outcome.{Outcome}
@@ -22,7 +21,7 @@ use Rattle.reading.specs.Reading.{reading, configuration-in}
 use Rattle.reading.proofs.Acceptance.{accepted, accepts, not-good}
 use Rattle.writing.specs.Written.{Written, image-size}
 use Rattle.records.proofs.SizeLaws.{image-length}
-use Rattle.image.specs.Loaded.{Loaded, loaded}
+use Rattle.image.specs.Loaded.{loaded}
 use Rattle.image.proofs.ImageTrips.{configuration-back, image-accepted, bytes-again, configuration-valid}
 use Rattle.promises.specs.Running.{run}
 use Rattle.promises.specs.Images.{Saved-reads-back, Same-bytes-again, Accepts-exactly, One-configuration-each, Refusals-write-nothing}
@@ -51,7 +50,7 @@ module _ {words buffer buffer′ : List ℕ} {w : Outcome} (s : Written words bu
       go true q h = h
       go false q h = absurd (not-good (sym q))
 
-sizes : configured ≤ unit-size
+pub sizes : configured ≤ unit-size
 unfolding configured unit-size flags-at runs-at signals-at words
 sizes = omega arith
 

@@ -21,7 +21,7 @@ use Rattle.configuration.proofs.Start.{valid-at-start}
 use Rattle.frames.specs.Answers.{answer}
 use Rattle.frames.specs.declared.types.Answer.{Answer}
 use Rattle.frames.specs.declared.types.Answer.the-variants.{Silent, Aborted, Value, Written}
-use Rattle.sdo.specs.Served.{Served, after}
+use Rattle.sdo.specs.Served.{after}
 use Rattle.unit.specs.Entry.{entry}
 use Rattle.inputs.specs.Inputs.{memory}
 use Rattle.controller.specs.Tick.{anyFlagged, ticked}
@@ -46,7 +46,7 @@ only-the-fold (e ∷ es) s u (Ran.then {t = t} d r) =
 
 -- ---- a configuration that agrees with a valid one is valid
 
-agrees : (unit other : List ℕ) → ((k : ℕ) → k < configured → getD unit k 0 ≡ getD other k 0) → Valid other → Valid unit
+pub agrees : (unit other : List ℕ) → ((k : ℕ) → k < configured → getD unit k 0 ≡ getD other k 0) → Valid other → Valid unit
 unfolding held
 agrees unit other same v =
     record {
@@ -96,7 +96,7 @@ sound-on [] unit b h = h
 sound-on (frame f room ∷ es) unit b h = sound-on es (happens (frame f room) unit) (b .1) (sound-after-frame unit f room (b .0) h)
 sound-on (tick samples ∷ es) unit b h = sound-on es (happens (tick samples) unit) b (sound-after-tick unit samples h)
 
-size-at-start : length at-start ≡ unit-size
+pub size-at-start : length at-start ≡ unit-size
 unfolding at-start starts words signals-at runs-at flags-at unit-size
 size-at-start = refl
 

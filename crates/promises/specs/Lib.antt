@@ -1,4 +1,5 @@
 pub mod Bench
+pub mod Demands
 pub mod Images
 pub mod Restoring
 pub mod Running

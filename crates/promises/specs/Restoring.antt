@@ -1,17 +1,15 @@
 -- What is promised of a restore list: of the bytes and the number that `restore_list` leaves to C, sent to a unit as frames.
 -- Assumes nothing.
-use Prim.Native.Nat.{ℕ, zero, suc, _+_, _-_, _<_, _≤_}
+use Prim.Native.Nat.{ℕ, _+_, _<_, _≤_}
 use mathlib.Core.Logic.{_⊎_}
 use mathlib.Core.Path.{_≡_}
 use mathlib.Core.List.{List, [], _∷_, _++_}
-use lib.Dec.{eqb}
 use lib.IntN.{ℤ, pos, negsuc, negℤ}
-use lib.ListN.{length, getD, take, drop, replicate}
+use lib.ListN.{length, getD, take, drop}
 use Rattle.little.specs.Little.{little, Bytes}
-use Rattle.numbers.specs.Choice.{first}
 use Rattle.dictionary.specs.Names.{configured}
 use Rattle.dictionary.specs.Unit.{unit-size}
-use Rattle.frames.specs.Answers.{answer}
+use Rattle.frames.specs.Answers.{size-of, answer}
 use Rattle.frames.specs.Frames.{name-in, reply-to}
 use Rattle.frames.specs.declared.types.Answer.{Answer}
 use Rattle.frames.specs.declared.types.Answer.the-variants.{Silent, Aborted, Value, Written}
@@ -23,25 +21,10 @@ use Rattle.reading.specs.Reading.{reading, configuration-in}
 use Rattle.sdo.specs.Served.{after}
 use Rattle.sending.specs.Sending.{apart}
 use Rattle.gateway.specs.Restored.{Restored}
+use Rattle.delivery.specs.Delivery.{frames-in}
 use Rattle.promises.specs.Running.{Event, frame, tick, happens, run}
 
--- ---- a list as it is sent
-
--- "Writes of 4, 2, 1 bytes are 23h, 2Bh, 2Fh"
-unfoldable pub write-command : ℕ → ℕ
-write-command n = first (eqb n 4) 0x23 (first (eqb n 2) 0x2B 0x2F)
-
--- the record at the front of some bytes as a frame: command, name, data, zeros
-unfoldable pub frame-of : List ℕ → List ℕ
-frame-of rest = write-command (size-in rest) ∷ take 3 rest ++ take (size-in rest) (drop 7 rest) ++ replicate (4 - size-in rest) 0
-
--- the frames of so many records, each as long as it says
-unfoldable pub frames-from : ℕ → List ℕ → List (List ℕ)
-frames-from zero rest = []
-frames-from (suc n) rest = frame-of rest ∷ frames-from n (drop (7 + size-in rest) rest)
-
-unfoldable pub frames-in : List ℕ → List (List ℕ)
-frames-in list = frames-from (little (take 4 list)) (drop 4 list)
+-- ---- a list as it is sent: its records as frames are `frames-in` of `delivery`
 
 -- the bytes that the returned number counts
 unfoldable pub list-left : ℤ → List ℕ → List ℕ
@@ -110,26 +93,35 @@ Count-is-difference =
     → (little (take 4 buffer′) ≡ apart (configuration-in current) (configuration-in wanted))
     × (length (frames-in (list-left r buffer′)) ≡ apart (configuration-in current) (configuration-in wanted))
 
--- how many frames of a list of events are accepted writes
-abbrev pub one-written : Answer → ℕ
-one-written Silent = 0
-one-written (Aborted a) = 0
-one-written (Value word n) = 0
-one-written (Written slot word) = 1
+-- an accepted write counts as one record
+abbrev pub one-record : Answer → ℕ
+one-record Silent = 0
+one-record (Aborted a) = 0
+one-record (Value word n) = 0
+one-record (Written slot word) = 1
 
-abbrev pub written-by : Event → List ℕ → ℕ
-written-by (frame f room) unit = one-written (answer unit f room)
-written-by (tick samples) unit = 0
+-- or as the bytes that the record has in a list
+abbrev pub record-bytes : Answer → ℕ
+record-bytes Silent = 0
+record-bytes (Aborted a) = 0
+record-bytes (Value word n) = 0
+record-bytes (Written slot word) = 7 + size-of slot
 
-unfoldable pub writes : List Event → List ℕ → ℕ
-writes [] unit = 0
-writes (e ∷ es) unit = written-by e unit + writes es (happens e unit)
+-- what the accepted writes of a list of events come to
+abbrev pub written-by : (Answer → ℕ) → Event → List ℕ → ℕ
+written-by worth (frame f room) unit = worth (answer unit f room)
+written-by worth (tick samples) unit = 0
 
--- "It is as short as any such list can be": whatever takes the unit from the first to the second has at least as many accepted writes
+unfoldable pub writes : (Answer → ℕ) → List Event → List ℕ → ℕ
+writes worth [] unit = 0
+writes worth (e ∷ es) unit = written-by worth e unit + writes worth es (happens e unit)
+
+-- "It is as short as any such list can be": whatever takes the unit from the first to the second has at least as many accepted writes, and their records as many bytes
 abbrev pub Shortest : Type 0
 Shortest =
     (current wanted buffer buffer′ : List ℕ) (r : ℤ) (unit : List ℕ) → Restoring current wanted buffer buffer′ r unit
-    → (events : List Event) → take configured (run events unit) ≡ configuration-in wanted → length (frames-in (list-left r buffer′)) ≤ writes events unit
+    → (events : List Event) → take configured (run events unit) ≡ configuration-in wanted
+    → (length (frames-in (list-left r buffer′)) ≤ writes one-record events unit) × (length (list-left r buffer′) ≤ 4 + writes record-bytes events unit)
 
 -- ---- what is turned away
 

@@ -1,0 +1,3 @@
+pub mod ListFrames
+pub mod RecordFrames
+pub mod Slots

@@ -1,0 +1,45 @@
+-- The three demands are met.
+-- Assumes nothing.
+use Rattle.promises.specs.Demands.{Demand-1, Demand-2, Demand-3}
+use Rattle.promises.proofs.Bench as Bench
+use Rattle.promises.proofs.Images as Images
+use Rattle.promises.proofs.Restoring as Restoring
+use Rattle.promises.proofs.Running as Running
+use Rattle.promises.proofs.Serving as Serving
+
+pub demand-1 : Demand-1
+demand-1 =
+    record {
+      one-answer = Serving.determined;
+      one-list = Restoring.one-list;
+      images-told-apart = Images.accepts-exactly;
+      frames-refused = Serving.untouched;
+      images-refused = Images.refusals-write-nothing;
+      lists-refused = Restoring.refused-lists-write-nothing;
+    }
+
+pub demand-2 : Demand-2
+demand-2 =
+    record {
+      reads-back = Serving.reads-back;
+      decided-by-configuration = Serving.decided-by-configuration;
+      stays-valid = Serving.stays-valid;
+      on-the-bench = Bench.on-the-bench;
+      only-the-fold = Running.only-the-fold;
+      always-sound = Running.always-sound;
+      saved-reads-back = Images.saved-reads-back;
+      same-bytes-again = Images.same-bytes-again;
+      one-configuration-each = Images.one-configuration-each;
+    }
+
+pub demand-3 : Demand-3
+demand-3 =
+    record {
+      always-fits = Restoring.always-fits;
+      each-accepted = Restoring.each-accepted;
+      arrives = Restoring.arrives;
+      cut-anywhere = Restoring.cut-anywhere;
+      count-is-difference = Restoring.count-is-difference;
+      shortest = Restoring.shortest;
+      turned-away-exactly = Restoring.turned-away-exactly;
+    }

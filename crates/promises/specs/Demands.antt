@@ -1,0 +1,59 @@
+-- The three demands, each one definition: its words, and beside them the statements that answer them.
+-- Assumes nothing.
+use Rattle.promises.specs.Bench.{On-the-bench}
+use Rattle.promises.specs.Images.{Saved-reads-back, Same-bytes-again, Accepts-exactly, One-configuration-each, Refusals-write-nothing}
+use Rattle.promises.specs.Restoring.{Always-fits, Each-accepted, Arrives, Cut-anywhere, Count-is-difference, Shortest, Turned-away-exactly, Refused-lists-write-nothing, One-list}
+use Rattle.promises.specs.Running.{Only-the-fold, Always-sound}
+use Rattle.promises.specs.Serving.{Untouched, Determined, Reads-back, Stays-valid, Decided-by-configuration}
+
+-- "Every frame, image and sample is taken. .. Each call ends, and no caller has to look first": no public function has a `requires`, and the checker proves that each ends
+pub record Demand-1 : Type 0 where
+  -- "Bad input meets its listed refusal": a frame has one answer, with all that it leaves
+  pub one-answer : Determined
+  -- two images and a buffer have one list, or one refusal
+  pub one-list : One-list
+  -- an image is refused exactly where it is not that of a configuration in range and in order
+  pub images-told-apart : Accepts-exactly
+  -- "after a refusal the controller and the lent buffers hold what they held before, save for an abort frame where a reply is due": of a frame
+  pub frames-refused : Untouched
+  -- of an image that is read or written
+  pub images-refused : Refusals-write-nothing
+  -- of a list
+  pub lists-refused : Refused-lists-write-nothing
+
+pub record Demand-2 : Type 0 where
+  -- "Frames answer as DS-301 expedited transfer says": what is written is read back, by its name
+  pub reads-back : Reads-back
+  -- nothing but the configuration decides whether a configuration write is accepted
+  pub decided-by-configuration : Decided-by-configuration
+  -- no frame breaks a range or a chain
+  pub stays-valid : Stays-valid
+  -- the bench's own replies and numbers
+  pub on-the-bench : On-the-bench
+  -- "Inputs, math, tables, logic and outputs follow document 01 tick by tick, REAL32 to the bit": any frames and ticks leave what the definitions make of them
+  pub only-the-fold : Only-the-fold
+  -- and in that, from the start, ranges and chains hold and 1001h tells of the flags
+  pub always-sound : Always-sound
+  -- "An image written from a controller reads back as that configuration"
+  pub saved-reads-back : Saved-reads-back
+  -- "one that is read and written again has the same bytes"
+  pub same-bytes-again : Same-bytes-again
+  -- so no image stands for two configurations
+  pub one-configuration-each : One-configuration-each
+
+-- "For any two complete images in range and in order, and a buffer of 5,207 bytes"
+pub record Demand-3 : Type 0 where
+  -- a list is made, and fits
+  pub always-fits : Always-fits
+  -- it "is accepted record by record", "while no other configuration write comes between"
+  pub each-accepted : Each-accepted
+  -- "and leaves the second"
+  pub arrives : Arrives
+  -- "Cut after any record, every entry holds its first or second value"
+  pub cut-anywhere : Cut-anywhere
+  -- it has one record for each entry that differs, and its count is their number
+  pub count-is-difference : Count-is-difference
+  -- "It is as short as any such list can be"
+  pub shortest : Shortest
+  -- a wanted image is "turned away exactly when no list of accepted writes could reach it"
+  pub turned-away-exactly : Turned-away-exactly
