@@ -40,11 +40,11 @@ unfolding place-of
 next-place slot h = let next = offset-next listed slot (omega (arith, counted)) in omega arith
 
 module _ (image : List ℕ) (g : reading image ≡ Good) (slot : ℕ) (h : slot < 611) where
-  at-place : drop (offset listed slot) (drop 4 image) ≡ drop (place-of slot) image
+  pub at-place : drop (offset listed slot) (drop 4 image) ≡ drop (place-of slot) image
   unfolding place-of
   at-place = drop-drop (offset listed slot) 4 image
 
-  right : Right (entry listed slot) (drop (place-of slot) image)
+  pub right : Right (entry listed slot) (drop (place-of slot) image)
   right = subst (Right (entry listed slot)) at-place (right-at listed (drop 4 image) (accepted image g .walk .rights) slot (omega (arith, counted)))
 
   pub size-is : size-in (drop (place-of slot) image) ≡ size (entry listed slot)

@@ -1,6 +1,6 @@
 -- The frames of a restore list: one for each slot that it sends, with the wanted image's word for it.
 -- Assumes nothing.
-use mathlib.Core.Path.{_≡_, refl, sym, ap, _∙_, subst}
+use mathlib.Core.Path.{_≡_, refl, sym, ap, _∙_}
 use mathlib.Core.Bool.{true, and-eq-true-iff}
 use mathlib.Core.List.{List, [], _∷_, _++_, map, flatMap}
 use Prim.Native.Nat.{ℕ, _+_, _<_, _≤_}
@@ -22,16 +22,16 @@ use Rattle.records.specs.Walk.{size-in, data-in}
 use Rattle.records.specs.declared.types.Outcome.the-variants.{Good}
 use Rattle.records.proofs.RightLaws.{Right}
 use Rattle.reading.specs.Reading.{reading, configuration-in}
-use Rattle.reading.proofs.Acceptance.{accepted}
-use Rattle.reading.proofs.PlaceLaws.{counted, value-at, right-at}
+use Rattle.reading.proofs.PlaceLaws.{counted, value-at}
 use Rattle.sending.specs.Sending.{stretch, sends, total}
 use Rattle.sending.proofs.Counting.{all-inside, total-within}
 use Rattle.sending.proofs.Totals.{total-length}
 use Rattle.changes.specs.Changes.{changes, list-of, place-of}
 use Rattle.changes.proofs.NotingLaws.{stretch-length}
+use Rattle.changes.proofs.StandingLaws as Standing
 use Rattle.delivery.specs.Delivery.{frame-of, frames-from, frames-in}
 use Rattle.delivery.proofs.RecordFrames as Record
-use Rattle.delivery.proofs.Slots.{named, own-size, all-bytes}
+use Rattle.delivery.proofs.Slots.{named, own-size}
 
 -- ---- only the record counts, not what is behind it
 
@@ -61,16 +61,16 @@ module _ (image : List ℕ) (g : reading image ≡ Good) (slot : ℕ) (h : slot 
   in-list : slot < length listed
   in-list = omega (arith, counted, Names.counted .0)
 
-  at-place : drop (offset listed slot) (drop 4 image) ≡ body
-  unfolding place-of body
-  at-place = drop-drop (offset listed slot) 4 image
+  small : slot < 611
+  small = omega (arith, Names.counted .0)
 
   right : Right (entry listed slot) body
-  right = subst (Right (entry listed slot)) at-place (right-at listed (drop 4 image) (accepted image g .walk .rights) slot in-list)
+  unfolding body
+  right = Standing.right image g slot small
 
   word-is : data-in (size (entry listed slot)) body ≡ getD (configuration-in image) slot 0
-  unfolding configuration-in
-  word-is = sym (value-at listed (drop 4 image) slot in-list ∙ ap (data-in (size (entry listed slot))) at-place)
+  unfolding configuration-in body
+  word-is = sym (value-at listed (drop 4 image) slot in-list ∙ ap (data-in (size (entry listed slot))) (Standing.at-place image g slot small))
 
   pub answered : (words : List ℕ) (room : ℕ) → 8 ≤ room
       → answer words (frame-at image slot) room ≡ stored slot (getD (configuration-in image) slot 0) (judged words slot (getD (configuration-in image) slot 0))
@@ -86,8 +86,7 @@ module _ (image : List ℕ) (g : reading image ≡ Good) (slot : ℕ) (h : slot 
   -- the record by itself
 
   pub record-long : length (record-in image slot) ≡ 7 + size (entry listed slot)
-  unfolding record-in place-of body
-  record-long = let room = right .room in length-take-le (7 + size (entry listed slot)) body room
+  record-long = Standing.record-length image g slot small
 
   again : record-in image slot ++ drop (7 + size (entry listed slot)) body ≡ body
   unfolding record-in place-of body
@@ -167,11 +166,6 @@ module _ (current wanted : List ℕ) where
           bytes-length 4 (length slots),
           records-long wanted g slots inside,
         )
-
-    -- "a buffer of 5,207 bytes" is always enough
-    pub list-short : length (list-of current wanted) ≤ 5207
-    unfolding changes
-    list-short = omega (arith, list-long, total-within (configuration-in current) (configuration-in wanted) (λ s. 7 + size-of s), all-bytes)
 
     pub list-frames : frames-in (list-of current wanted) ≡ map (frame-at wanted) (changes current wanted)
     unfolding frames-in list-of

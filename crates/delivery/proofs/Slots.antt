@@ -1,7 +1,7 @@
 -- What an image calls a slot, computed over all of them: the name is found at the slot, the range is the slot's own.
 -- Assumes nothing.
 use mathlib.Core.Path.{_≡_, refl, sym, ap}
-use Prim.Native.Nat.{ℕ, _+_, _<_}
+use Prim.Native.Nat.{ℕ, _<_}
 use Rattle.dictionary.specs.Names.{configured, find}
 use Rattle.dictionary.specs.Rows.{width}
 use Rattle.dictionary.specs.declared.types.Found.the-variants.{At}
@@ -11,7 +11,6 @@ use Rattle.roles.specs.Values.{range-of}
 use Rattle.configuration.proofs.Configuration.{at-each}
 use Rattle.frames.specs.Answers.{size-of}
 use Rattle.records.specs.Layout.{listed, size, entry}
-use Rattle.sending.specs.Sending.{slots-from, stretch, total}
 
 names-computed : tabulate configured 0 (λ slot. find (entry listed slot .index) (entry listed slot .sub)) ≡ tabulate configured 0 At
 unfolding tabulate configured find entry listed
@@ -30,8 +29,3 @@ own-range = at-each (λ slot. entry listed slot .range) range-of ranges-computed
 pub own-size : (slot : ℕ) → slot < configured → size-of slot ≡ size (entry listed slot)
 unfolding size-of size
 own-size slot h = ap (λ (r : Range). width (r .kind)) (sym (own-range slot h))
-
--- all records together
-pub all-bytes : total (λ slot. 7 + size-of slot) (stretch 0 configured) ≡ 5203
-unfolding total stretch slots-from configured size-of range-of width
-all-bytes = refl
