@@ -13,7 +13,7 @@ use Rattle.numbers.specs.Choice.{first}
 use Rattle.numbers.specs.Order.{below}
 use Rattle.entries.specs.Judge.{held}
 use Rattle.reading.specs.Reading.{configuration-in}
-use Rattle.sending.specs.Sending.{slots-from, stretch, picked, differs, rises}
+use Rattle.sending.specs.Sending.{slots-from, stretch, picked, differs, grows, rises}
 use Rattle.sending.proofs.Picked.{picked-append}
 use Rattle.changes.specs.Changes.{place-of}
 use Rattle.changes.specs.declared.types.Noted.{Noted}
@@ -151,7 +151,7 @@ module _ (current wanted : List ℕ) where
         → ((notes₀ : List ℕ) (ups : ℕ) (ps : List ℕ) → State wanted notes₀ ups ps notes n → Onward current wanted slots s t up notes₀ ups ps notes″ n″)
         → length notes″ ≡ length notes′ → ((more : ℕ) → Room (suc more) notes′ n′ → Room more notes″ n″)
         → Further current wanted (slots ++ s ∷ []) notes n notes″ n″
-    unfolding rises
+    unfolding rises grows
     further-by t d st l r =
         let rising : rises (configuration-in current) (configuration-in wanted) s ≡ (not t && up) = rw (d, u) in
         let picks = more-picked (rises (configuration-in current) (configuration-in wanted)) slots s rising in

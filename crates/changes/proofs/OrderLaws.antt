@@ -20,7 +20,7 @@ use Rattle.entries.specs.Judge.{held}
 use Rattle.records.specs.Layout.{listed, size, offset, record-in}
 use Rattle.records.specs.declared.types.Outcome.the-variants.{Good}
 use Rattle.reading.specs.Reading.{reading, configuration-in}
-use Rattle.sending.specs.Sending.{slots-from, stretch, order, picked, differs, rises, falls, sent, sends}
+use Rattle.sending.specs.Sending.{slots-from, stretch, order, picked, differs, grows, rises, falls, sent, sends}
 use Rattle.sending.proofs.Counting.{all-inside, each-inside}
 use Rattle.sending.proofs.Picked.{picked-append}
 use Rattle.changes.specs.Changes.{changes, list-of, place-of, places, noted}
@@ -54,7 +54,7 @@ both-further {current} {wanted} xs ys f g =
 
 module _ (a b : List ℕ) where
   joined-sent : (done : List ℕ) (s : ℕ) → joined (differs a b s) (below (held a s) (held b s)) (place-of s) (map place-of (sent a b done)) ≡ map place-of (sent a b (done ++ s ∷ []))
-  unfolding sent rises falls picked first joined
+  unfolding sent grows rises falls picked first joined
   joined-sent done s =
       rw (picked-append (rises a b) done (s ∷ []), picked-append (falls a b) done (s ∷ [])) (go (differs a b s) (below (held a s) (held b s)))
     where

@@ -24,6 +24,7 @@ use Rattle.roles.specs.declared.types.Link.{Link}
 use Rattle.roles.specs.declared.types.Link.the-variants.{Free, Loose, Strict}
 use Rattle.entries.specs.declared.types.Verdict.the-variants.{Good}
 use Rattle.configuration.proofs.Neighbours.{near, another, is-another, upper-another}
+use Rattle.sending.specs.Sending.{grows}
 use Rattle.sending.proofs.Agenda.{place, turn-of, place-inside, further}
 
 -- a number and so much more is at most another; the parts of a whole number are its own and its opposite's
@@ -69,7 +70,7 @@ under f false y z = refl
 
 module _ (a b : List ℕ) where
   unfoldable pub due : ℕ → ℕ
-  due k = turn-of (below (held a k) (held b k)) k
+  due k = turn-of (grows a b k) k
 
   unfoldable pub stage : ℕ → ℕ → ℕ
   stage t k = first (ltb (due k) t) (getD b k 0) (getD a k 0)
@@ -89,11 +90,11 @@ module _ (a b : List ℕ) where
 
     room-at : (gap k u : ℕ) → k < configured → u < configured → ltb (place k) (place u) ≡ true
         → Room gap (held a k) (held a u) → Room gap (held b k) (held b u) → Room gap (held words k) (held words u)
-    unfolding due turn-of
+    unfolding due turn-of grows
     room-at gap k u h i f old new =
         rw (held-at k h, held-at u i)
         (blended gap (place k) (place u) configured t (held a k) (held b k) (held a u) (held b u)
-        (ltb-true (place k) (place u) f) (place-inside u i) old new (below (held a k) (held b k)) (below (held a u) (held b u))
+        (ltb-true (place k) (place u) f) (place-inside u i) old new (grows a b k) (grows a b u)
         (ltb (due k) t) (ltb (due u) t) refl refl refl refl)
 
     link-at : (k : ℕ) (link : Link) → k < configured → near (another k) link ≡ true → near (λ u. ltb (place k) (place u)) link ≡ true

@@ -9,12 +9,10 @@ use lib.Dec.{eqb, ltb}
 use lib.ListN.{getD}
 use borrow.Author.Tests.{eqb-true, eqb-false, ltb-true, ltb-false, lt-ltb, le-ltb, not-true, not-false}
 use Rattle.numbers.specs.Choice.{first}
-use Rattle.numbers.specs.Order.{below}
 use Rattle.numbers.proofs.Choices.{chosen}
 use Rattle.dictionary.specs.Names.{configured}
 use Rattle.dictionary.proofs.Tabulate.{tabulate}
-use Rattle.entries.specs.Judge.{held}
-use Rattle.sending.specs.Sending.{order, picked, differs, rises, falls, sent, sends}
+use Rattle.sending.specs.Sending.{order, picked, differs, grows, rises, falls, sent, sends}
 use Rattle.sending.proofs.Agenda.{Call, call, turns, turn-of, call-at, place, agenda-computed, called, place-inside}
 use Rattle.sending.proofs.Clock.{due, stage, stage-in}
 use Rattle.sending.proofs.Picked.{picked-reverse}
@@ -57,22 +55,22 @@ module _ (a b : List ℕ) where
 
   -- ---- a slot's own call
 
-  pub way : (up : Bool) (slot : ℕ) → goes (call up slot) ≡ true → below (held a slot) (held b slot) ≡ up
+  pub way : (up : Bool) (slot : ℕ) → goes (call up slot) ≡ true → grows a b slot ≡ up
   unfolding goes first rises falls
-  way true slot e = and-eq-true-iff (differs a b slot) (below (held a slot) (held b slot)) .0 e .1
-  way false slot e = not-true (below (held a slot) (held b slot)) (and-eq-true-iff (differs a b slot) (not (below (held a slot) (held b slot))) .0 e .1)
+  way true slot e = and-eq-true-iff (differs a b slot) (grows a b slot) .0 e .1
+  way false slot e = not-true (grows a b slot) (and-eq-true-iff (differs a b slot) (not (grows a b slot)) .0 e .1)
 
-  own-call : (slot : ℕ) → goes (call (below (held a slot) (held b slot)) slot) ≡ differs a b slot
+  own-call : (slot : ℕ) → goes (call (grows a b slot) slot) ≡ differs a b slot
   unfolding goes first rises falls
-  own-call slot = go (below (held a slot) (held b slot))
+  own-call slot = go (grows a b slot)
     where
       go : (up : Bool) → first up (differs a b slot && up) (differs a b slot && not up) ≡ differs a b slot
       go true = and-true (differs a b slot)
       go false = and-true (differs a b slot)
 
-  pub due-call : (k t : ℕ) → k < configured → due a b k ≡ t → call-at t ≡ call (below (held a k) (held b k)) k
+  pub due-call : (k t : ℕ) → k < configured → due a b k ≡ t → call-at t ≡ call (grows a b k) k
   unfolding due
-  due-call k t h e = rw (← e) (called (below (held a k) (held b k)) k h)
+  due-call k t h e = rw (← e) (called (grows a b k) k h)
 
   alike : (k : ℕ) → differs a b k ≡ false → getD a k 0 ≡ getD b k 0
   unfolding differs
@@ -106,5 +104,5 @@ module _ (a b : List ℕ) where
 pub due-early : (a b : List ℕ) (k : ℕ) → k < configured → due a b k < turns
 unfolding due turn-of turns
 due-early a b k h =
-    chosen (λ t. t < configured + configured) (below (held a k) (held b k)) (configured - suc (place k)) (configured + place k)
+    chosen (λ t. t < configured + configured) (grows a b k) (configured - suc (place k)) (configured + place k)
     (λ e. omega (arith, place-inside k h)) (λ e. omega (arith, place-inside k h))

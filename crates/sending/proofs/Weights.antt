@@ -10,11 +10,9 @@ use lib.ListN.{getD, set}
 use lib.Seq.{getD-set-other}
 use borrow.Author.Tests.{eqb-false, eq-eqb}
 use Rattle.numbers.specs.Choice.{first}
-use Rattle.numbers.specs.Order.{below}
 use Rattle.numbers.proofs.Choices.{chosen}
 use Rattle.dictionary.specs.Names.{configured, slot-of}
-use Rattle.entries.specs.Judge.{held}
-use Rattle.sending.specs.Sending.{slots-from, stretch, order, picked, differs, rises, falls, sent, sends, total}
+use Rattle.sending.specs.Sending.{slots-from, stretch, order, picked, differs, grows, rises, falls, sent, sends, total}
 use Rattle.sending.proofs.Totals.{total-none, total-least, total-sum, total-append, total-reverse, total-picked, total-stretch, once}
 
 -- ---- the order is a rearrangement of all slots
@@ -37,7 +35,7 @@ module _ (f : ℕ → ℕ) where
   module _ (a b : List ℕ) where
     either-way : (s : ℕ) → first (rises a b s) (f s) 0 + first (falls a b s) (f s) 0 ≡ first (differs a b s) (f s) 0
     unfolding rises falls first
-    either-way s = go (differs a b s) (below (held a s) (held b s))
+    either-way s = go (differs a b s) (grows a b s)
       where
         go : (d r : Bool) → first (d && r) (f s) 0 + first (d && not r) (f s) 0 ≡ first d (f s) 0
         go true true = omega arith
@@ -47,8 +45,7 @@ module _ (f : ℕ → ℕ) where
     total-sent : (l : List ℕ) → total f (sent a b l) ≡ total (λ s. first (differs a b s) (f s) 0) l
     unfolding sent
     total-sent l =
-        total-append f (reverse (picked (rises a b) l)) (picked (falls a b) l)
-        ∙ rw (total-reverse f (picked (rises a b) l), total-picked f (rises a b) l, total-picked f (falls a b) l)
+        simp (total-append f, total-reverse f, total-picked f)
         (total-sum (λ s. first (rises a b s) (f s) 0) (λ s. first (falls a b s) (f s) 0) l ∙ ap (λ (g : ℕ → ℕ). total g l) (fun-ext either-way))
 
     pub sends-weight : total f (sends a b) ≡ weight a b

@@ -35,12 +35,15 @@ picked test (s ∷ ss) = first (test s) (s ∷ picked test ss) (picked test ss)
 unfoldable pub differs : List ℕ → List ℕ → ℕ → Bool
 differs a b slot = not (eqb (getD a slot 0) (getD b slot 0))
 
--- read as chains read them; an entry in no chain may be sent at any time
+-- its number grows, read as chains read it; an entry in no chain may be sent at any time
+unfoldable pub grows : List ℕ → List ℕ → ℕ → Bool
+grows a b slot = below (held a slot) (held b slot)
+
 unfoldable pub rises : List ℕ → List ℕ → ℕ → Bool
-rises a b slot = differs a b slot && below (held a slot) (held b slot)
+rises a b slot = differs a b slot && grows a b slot
 
 unfoldable pub falls : List ℕ → List ℕ → ℕ → Bool
-falls a b slot = differs a b slot && not (below (held a slot) (held b slot))
+falls a b slot = differs a b slot && not (grows a b slot)
 
 -- of some slots: first what rises, from the last to the first, then what falls, from the first to the last
 unfoldable pub sent : List ℕ → List ℕ → List ℕ → List ℕ
