@@ -1,4 +1,4 @@
-// What an index with a sub-index names. proofs/ has the laws that every slot has one name and every name one slot, computed over the whole table.
+// What an index with a sub-index names.
 ghost use mathlib.Core.Path.{_≡_};
 ghost use Prim.Native.Nat.{_+_, _<_};
 ghost use Rattle.dictionary.specs.Names.{find, named};

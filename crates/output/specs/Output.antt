@@ -6,8 +6,8 @@ use lib.Dec.{eqb}
 use lib.IntN.{ℤ, pos, negsuc, natAbs, _+ℤ_, _-ℤ_}
 use lib.Ieee.{eq, ofBits, binary32}
 use Rattle.numbers.specs.Choice.{first}
-use Rattle.numbers.specs.Limit.{limitWhole}
-use Rattle.numbers.specs.Line.{lineAt}
+use Rattle.limits.specs.Limit.{limitWhole}
+use Rattle.whole_line.specs.Line.{lineAt}
 use Rattle.numbers.specs.Order.{below}
 use Rattle.signals.specs.Signal.{isError, isAbsent, whole}
 use Rattle.output.specs.declared.Settings.{Settings}

@@ -6,7 +6,7 @@ use mathlib.Core.List.{List, [], _∷_}
 use Prim.Native.Nat.{ℕ, zero, suc, _+_, _%_, _<_, _≤_, zero-le}
 use native.Mathlib.Omega.{arith}
 use lib.Dec.{eqb, ltb}
-use lib.ListN.{length, getD, take}
+use lib.ListN.{length, getD, take, drop}
 use borrow.Author.Tests.{lt-ltb, le-ltb, eq-eqb, ne-eqb}
 use Rattle.little.specs.Little.{little}
 use Rattle.little.proofs.Parts.{placed, part}
@@ -31,34 +31,22 @@ use Rattle.records.specs.declared.types.Walked.the-variants.{Taken, Refu
 -- ---- the parts
 
 module _ (rest : List ℕ) where
-  pub index-read : 7 ≤ length rest → little (getD rest 0 0 ∷ getD rest 1 0 ∷ []) ≡ index-in rest
-  unfolding index-in placed
-  index-read h = sym (ap little (part rest 2 0 (omega arith)))
-
-  pub size-read : 7 ≤ length rest → little (getD rest 3 0 ∷ getD rest 4 0 ∷ getD rest 5 0 ∷ getD rest 6 0 ∷ []) ≡ size-in rest
-  unfolding size-in placed
-  size-read h = sym (ap little (part rest 4 3 (omega arith)))
-
-  pub count-read : 4 ≤ length rest → little (getD rest 0 0 ∷ getD rest 1 0 ∷ getD rest 2 0 ∷ getD rest 3 0 ∷ []) ≡ little (take 4 rest)
-  unfolding placed
-  count-read h = sym (ap little (part rest 4 0 h))
-
   pub data-cut : (n : ℕ) → length rest < 7 + n → 0 ≡ data-there n rest
   unfolding data-there first
   data-cut n h = rw (lt-ltb (length rest) (7 + n) h)
 
   module _ (n : ℕ) (h : 7 + n ≤ length rest) where
-    pub data-1 : n ≡ 1 → little (getD rest 7 0 ∷ 0 ∷ 0 ∷ 0 ∷ []) ≡ data-there n rest
+    pub data-1 : n ≡ 1 → little (getD rest 7 0 ∷ 0 ∷ []) ≡ data-there n rest
     unfolding data-there data-in little placed first
     data-1 e = rw (le-ltb (length rest) (7 + n) h, e, part rest 1 7 (omega arith)) (omega arith)
 
-    pub data-2 : n ≡ 2 → little (getD rest 7 0 ∷ getD rest 8 0 ∷ 0 ∷ 0 ∷ []) ≡ data-there n rest
-    unfolding data-there data-in little placed first
-    data-2 e = rw (le-ltb (length rest) (7 + n) h, e, part rest 2 7 (omega arith)) (omega arith)
+    pub data-2 : n ≡ 2 → little (take 2 (drop 7 rest)) ≡ data-there n rest
+    unfolding data-there data-in first
+    data-2 e = rw (le-ltb (length rest) (7 + n) h, e)
 
-    pub data-4 : n ≡ 4 → little (getD rest 7 0 ∷ getD rest 8 0 ∷ getD rest 9 0 ∷ getD rest 10 0 ∷ []) ≡ data-there n rest
-    unfolding data-there data-in placed first
-    data-4 e = rw (le-ltb (length rest) (7 + n) h, e, part rest 4 7 (omega arith))
+    pub data-4 : n ≡ 4 → little (take 4 (drop 7 rest)) ≡ data-there n rest
+    unfolding data-there data-in first
+    data-4 e = rw (le-ltb (length rest) (7 + n) h, e)
 
     pub data-else : (n ≡ 1 → ⊥) → (n ≡ 2 → ⊥) → (n ≡ 4 → ⊥) → 0 ≡ data-there n rest
     unfolding data-there first
