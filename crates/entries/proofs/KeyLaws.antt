@@ -12,7 +12,7 @@ use borrow.Author.Tests.{ne-eqb, le-ltb, ltb-true, ltb-false}
 use Rattle.numbers.specs.Choice.{first}
 use Rattle.numbers.specs.Order.{below}
 use Rattle.numbers.specs.Signed.{twos, signed16}
-use Rattle.dictionary.proofs.Families.{apart-from, Apart, apart-first}
+use Rattle.dictionary.proofs.Apart.{apart-from, Apart, apart-first}
 use Rattle.dictionary.proofs.Sieve.{agree-on}
 use Rattle.dictionary.proofs.Tabulate.{tabulate}
 use Rattle.roles.specs.Roles.{ranges, ranged, chosen}

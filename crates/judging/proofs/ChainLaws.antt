@@ -5,7 +5,7 @@ use mathlib.Core.List.{List, [], _∷_}
 use Prim.Native.Nat.{ℕ}
 use borrow.Author.Tests.{ne-eqb}
 use Rattle.numbers.specs.Choice.{first}
-use Rattle.dictionary.proofs.Families.{apart-from, Apart, apart-first}
+use Rattle.dictionary.proofs.Apart.{apart-from, Apart, apart-first}
 use Rattle.roles.specs.Chains.{upper-of, lower-of}
 use Rattle.roles.specs.Roles.{Holding, uppers, lowers, chosen, said, holding, Told}
 use Rattle.roles.specs.declared.types.Link.{Link}

@@ -16,7 +16,8 @@ use Rattle.limits.proofs.LimitLaws.{limit-from, limit-to}
 use Rattle.numbers.proofs.Orders.{lt-is-below}
 use Rattle.whole_line.proofs.LineLaws.{from-first, to-second}
 use Rattle.numbers.proofs.Choices.{chosen}
-use Rattle.output.specs.Output.{isOn, isOff, turnedOn, turnedOff, rule, ruleOf, faultOf}
+use Rattle.output.specs.Output.{rule, ruleOf, faultOf}
+use Rattle.turning.specs.Turning.{isOn, isOff, turnedOn, turnedOff}
 use Rattle.output.specs.Output.{span, step, rise, fall, moved, target, ramped, byRule, command}
 use Rattle.signals.specs.Signal.{whole}
 use Rattle.signals.specs.declared.signal.Signal.{Signal}
