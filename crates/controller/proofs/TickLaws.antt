@@ -13,7 +13,7 @@ use lib.Seq.{getD-set-same}
 use Rattle.numbers.specs.Choice.{first}
 use Rattle.signals.specs.declared.signal.Signal.{Signal}
 use Rattle.signals.specs.declared.signal.Signal.the-variants.{Absent}
-use Rattle.signals.proofs.WordLaws as two-words
+use Rattle.keeping.proofs.WordLaws as two-words
 use Rattle.dictionary.specs.Names.{slot-of, writable, words}
 use Rattle.dictionary.specs.Unit.{signals-at, runs-at, flags-at, unit-size}
 use Rattle.naming.proofs.NameLaws.{counted}

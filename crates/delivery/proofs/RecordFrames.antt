@@ -24,8 +24,13 @@ use Rattle.records.specs.Layout.{Listed, size}
 use Rattle.records.specs.Walk as records
 use Rattle.records.specs.Walk.{size-in}
 use Rattle.records.proofs.RightLaws.{Right}
-use Rattle.records.proofs.TakeLaws.{at-most-four, index-read}
+use Rattle.records.proofs.TakeLaws.{at-most-four}
 use Rattle.delivery.specs.Delivery.{write-command, frame-of}
+
+-- the index of a record, by its bytes
+index-read : (rest : List ℕ) → 7 ≤ length rest → little (getD rest 0 0 ∷ getD rest 1 0 ∷ []) ≡ records.index-in rest
+unfolding records.index-in placed
+index-read rest h = sym (ap little (part rest 2 0 (omega arith)))
 
 -- ---- a type's command, by its kind
 

@@ -1,3 +1,3 @@
-pub mod Families
+pub mod Apart
 pub mod Sieve
 pub mod Tabulate

@@ -1,4 +1,3 @@
 pub mod Names
-pub mod Objects
 pub mod Rows
 pub mod Unit

@@ -1,4 +1,3 @@
-// The object dictionary: the table of names, each object and where its words begin in a unit.
-pub mod objects;
+// The object dictionary: the table of names, and where the words of each object begin in a unit.
 pub mod slots;
 pub mod types;

@@ -1,2 +1,2 @@
-pub mod JudgeLaws
 pub mod KeyLaws
+pub mod RangeLaws

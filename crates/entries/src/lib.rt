@@ -1,6 +1,4 @@
-// What the dictionary's entries hold: the range and the chain of a role; and judging a value that is offered.
-mod chains;
-pub mod judging;
+// What the dictionary's entries hold, by their roles: whether a value that is offered is in range, and what may be said of it.
 mod limits;
 pub mod ranges;
 pub mod types;

@@ -1,27 +1,73 @@
-// How wide a value is.
+// Judging one value by the range of its role: finite, not above and not below.
 ghost use mathlib.Core.Path.{_≡_};
-ghost use Rattle.dictionary.specs.Rows.{width};
+ghost use Rattle.entries.specs.Judge.{number-of, finite, within, in-range, is-good};
 ghost use Rattle.roles.specs.Roles.{ranged};
-ghost use Rattle.roles.specs.Values.{range-of};
-use roles::telling::REAL;
-use roles::telling::role_of;
+use super::limits::high_of;
+use super::limits::kind_of;
+use super::limits::low_of;
+use super::types::Verdict;
+use dictionary::types::Kind;
+use numbers::signed::signed;
+use roles::telling::WHOLE;
 
-// The bytes of a role's type.
-pub fn width_of(role: u8) -> u8
-    ensures { λ r. ⌜ r ≡ width (ranged role .kind) ⌝ }
+fn number(kind: Kind, word: u32) -> i32
+    ensures { λ r. ⌜ r ≡ number-of kind word ⌝ }
 {
-    if role == REAL {
-        return 4;
+    match kind {
+        Kind::Unsigned8 => (word % 0x100) as i32,
+        Kind::Unsigned16 => (word % 0x1_0000) as i32,
+        Kind::Integer16 => signed(word) as i32,
+        Kind::Real32 => 0,
     }
-    if role < REAL {
-        return 1;
-    }
-    2
 }
 
-// The bytes of a slot's type. A slot past the last has the range 0..0.
-pub fn width(slot: usize) -> u8
-    ensures { λ r. ⌜ r ≡ width (range-of slot .kind) ⌝ }
+fn is_finite(kind: Kind, word: u32) -> bool
+    ensures { λ r. ⌜ r ≡ finite kind word ⌝ }
 {
-    width_of(role_of(slot))
+    match kind {
+        Kind::Unsigned8 => true,
+        Kind::Unsigned16 => true,
+        Kind::Integer16 => true,
+        Kind::Real32 => word / 0x80_0000 % 0x100 != 0xFF,
+    }
+}
+
+fn judge_number(v: i32, low: i32, high: i32) -> Verdict
+    ensures { λ r. ⌜ r ≡ within v low high ⌝ }
+{
+    if high < v {
+        return Verdict::Above;
+    }
+    if v < low {
+        return Verdict::Below;
+    }
+    Verdict::Good
+}
+
+pub fn judge_range(role: u8, word: u32) -> Verdict
+    ensures { λ r. ⌜ r ≡ in-range (ranged role) word ⌝ }
+{
+    // the whole range of INTEGER16
+    if WHOLE <= role {
+        return Verdict::Good;
+    }
+    let kind = kind_of(role);
+    if is_finite(kind, word) {
+        return judge_number(number(kind, word), low_of(role), high_of(role));
+    }
+    Verdict::NotFinite
+}
+
+// Whether a word may stand in the range of a role.
+pub fn fits(role: u8, word: u32) -> bool
+    ensures { λ r. ⌜ r ≡ is-good (in-range (ranged role) word) ⌝ }
+{
+    match judge_range(role, word) {
+        Verdict::Good => true,
+        Verdict::NotFinite => false,
+        Verdict::Above => false,
+        Verdict::Below => false,
+        Verdict::ChainUp => false,
+        Verdict::ChainDown => false,
+    }
 }

@@ -4,21 +4,16 @@ use Prim.Native.Nat.{ℕ}
 use mathlib.Core.Path.{_≡_}
 use mathlib.Core.List.{List, _++_}
 use lib.Dec.{ltb}
-use lib.IntN.{ℤ, pos, negℤ}
+use lib.IntN.{ℤ}
 use lib.ListN.{length, drop}
 use Rattle.numbers.specs.Choice.{first}
 use Rattle.records.specs.Layout.{image-of}
-use Rattle.records.specs.Walk.{outcome-number}
-use Rattle.records.specs.declared.types.Outcome.{Outcome}
 use Rattle.records.specs.declared.types.Outcome.the-variants.{Good, Refused}
 use Rattle.records.specs.declared.types.Refusal.the-variants.{NoRoom}
 use Rattle.writing.specs.Written.{image-size}
 use Rattle.reading.specs.Reading.{reading}
 use Rattle.image.specs.Loaded.{loaded}
-
--- 0, or the paper's number of the refusal, below zero
-unfoldable pub told : Outcome → ℤ
-told r = negℤ (pos (outcome-number r))
+use Rattle.refusals.specs.Told.{told}
 
 -- as `Written`, with the number in the outcome's place
 pub record ToldSaved (unit image image′ : List ℕ) (r : ℤ) : Type 0 where

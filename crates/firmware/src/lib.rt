@@ -5,15 +5,15 @@ ghost use Rattle.controller.specs.Tick.{ticked};
 ghost use Rattle.roles.specs.Values.{at-start};
 ghost use Rattle.reading.specs.Reading.{reading};
 ghost use Rattle.firmware.specs.Replied.{Replied};
-ghost use Rattle.firmware.specs.Told.{told, ToldSaved, ToldLoaded};
+ghost use Rattle.firmware.specs.Told.{ToldSaved, ToldLoaded};
+ghost use Rattle.refusals.specs.Told.{told};
 use controller::tick::tick;
 use dictionary::slots::Unit;
 use frames::types::Answer;
 use fresh::start::start;
 use image::read;
 use reading::check;
-use records::types::Outcome;
-use records::types::Refusal;
+use refusals::number_of;
 use sdo::serving::serve;
 use writing::write;
 
@@ -43,25 +43,6 @@ pub extern "C" fn valve_tick(unit: &mut Unit, samples: &[i16; 4])
     ensures { λ _. ⌜ now (unit .exit) ≡ ticked (now (samples .entry)) (now (unit .entry)) ⌝ }
 {
     tick(unit, *samples);
-}
-
-// 0, or the refusal's number below zero.
-fn number_of(outcome: Outcome) -> i32
-    ensures { λ r. ⌜ r ≡ told outcome ⌝ }
-{
-    match outcome {
-        Outcome::Good => 0,
-        Outcome::Refused(why) => match why {
-            Refusal::EndedEarly => -1,
-            Refusal::WrongCount => -2,
-            Refusal::NotNext => -3,
-            Refusal::WrongSize => -4,
-            Refusal::OutOfRange => -5,
-            Refusal::OutOfOrder => -6,
-            Refusal::LeftOver => -7,
-            Refusal::NoRoom => -8,
-        },
-    }
 }
 
 #[no_mangle]

@@ -16,10 +16,10 @@ use super::types::Command;
 use dictionary::slots::ERROR_REGISTER;
 use dictionary::slots::Unit;
 use dictionary::types::Found;
-use entries::judging::judge;
-use entries::ranges::width;
 use entries::types::Verdict;
+use judging::judge;
 use naming::find;
+use widths::width;
 
 fn read(unit: &Unit, found: Found) -> Answer
     requires { ⌜ slot-found found < unit-size ⌝ }

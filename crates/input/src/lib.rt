@@ -2,9 +2,9 @@
 use exact::difference;
 use exact::sum;
 use exact::wide;
-use numbers::line::Point;
-use numbers::line::limited;
 use signals::signal::Signal;
+use whole_line::Point;
+use whole_line::limited;
 ghost use mathlib.Core.Path.{_≡_};
 ghost use Rattle.input.specs.Input.{within, out, runAfter, clears, kept, process, sensed};
 

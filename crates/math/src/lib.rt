@@ -1,6 +1,6 @@
 // One math block: up to four inputs, scaled and joined from left to right. The fold over them goes input by input, so that whoever
 // holds the settings hands in one at a time. Each operation stands in the order that the paper gives, and is rounded once.
-use numbers::limit::limit_real;
+use limits::limit_real;
 use signals::reading::as_real;
 use signals::reading::failed;
 use signals::signal::Signal;

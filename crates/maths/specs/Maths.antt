@@ -3,7 +3,7 @@
 use Prim.Native.Nat.{ℕ, zero, suc, _+_, _*_}
 use mathlib.Core.List.{List}
 use Rattle.signals.specs.Signal.{asReal}
-use Rattle.signals.specs.Words.{numberOf}
+use Rattle.keeping.specs.Words.{numberOf}
 use Rattle.signals.specs.declared.signal.Signal.{Signal}
 use Rattle.math.specs.Math.{Running, joined, combined}
 use Rattle.math.specs.declared.Operand.{Operand}

@@ -10,11 +10,11 @@ use lib.Dec.{eqb, ltb, leb, lit<}
 use borrow.Author.Tests.{ltb-true, leb-true, eqb-true, ne-eqb, lt-ltb, le-leb, lt-leb}
 use Rattle.numbers.specs.Choice.{first}
 use Rattle.dictionary.specs.Names.{Stretch, stretches, with-index, largest, at-sub, named, find, slot-of, slot-found, configured, writable, words, configured-bytes}
-use Rattle.dictionary.specs.Objects.{meant, Rows}
+use Rattle.objects.specs.Objects.{meant, Rows}
 use Rattle.dictionary.specs.declared.types.Found.{Found}
 use Rattle.dictionary.specs.declared.types.Found.the-variants.{NoIndex, NoSub, Count, At}
-use Rattle.dictionary.specs.declared.objects.Object.{Object}
-use Rattle.dictionary.specs.declared.objects.Object.the-variants.{Unknown, Var, Array, Constants}
+use Rattle.objects.specs.declared.Object.{Object}
+use Rattle.objects.specs.declared.Object.the-variants.{Unknown, Var, Array, Constants}
 
 -- ---- a test that each stretch passes, those with one index among them
 

@@ -1,13 +1,13 @@
-// What an index with a sub-index names. proofs/ has the laws that every slot has one name and every name one slot, computed over the whole table.
+// What an index with a sub-index names.
 ghost use mathlib.Core.Path.{_≡_};
 ghost use Prim.Native.Nat.{_+_, _<_};
 ghost use Rattle.dictionary.specs.Names.{find, named};
-ghost use Rattle.dictionary.specs.Objects.{meant};
-use dictionary::objects::Object;
-use dictionary::objects::rows_of;
+ghost use Rattle.objects.specs.Objects.{meant};
 use dictionary::slots::CONSTANT;
 use dictionary::slots::FIXED;
 use dictionary::types::Found;
+use objects::Object;
+use objects::rows_of;
 
 fn in_var(slot: usize, sub: u8) -> Found
     ensures { λ r. ⌜ r ≡ named (meant (Object.Var slot) 0) sub ⌝ }

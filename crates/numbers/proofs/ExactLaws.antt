@@ -8,8 +8,6 @@ use borrow.Author.Tests.{le-ltb}
 use lib.Dec.{ltb, leb, leb→le}
 use lib.IntN.{ℤ, pos, negsuc, negℤ, subℕ, _+ℤ_, _-ℤ_}
 use lib.Signed.{mag, _≤ℤ_}
-use Rattle.numbers.specs.Limit.{limitWhole}
-use Rattle.numbers.specs.Line.{lineAt}
 use mir.Syntax.{Width, w16, w32}
 use mir.Val.{toZ, ofZ, SFits}
 use mir.Facts.{toZ-ofZ, sfits-widen}
@@ -95,13 +93,6 @@ answer f fits e g = e ∙ sym g ∙ ap f (toZ-ofZ fits)
 -- an INTEGER16 that a call gave, as it is handed on
 pub back : {x a : ℤ} → mag x < 2 ^ 15 → x ≡ a → toZ w16 (ofZ w16 x) ≡ a
 back {x} h e = toZ-ofZ {w = w16} {z = x} (record { sfits = h }) ∙ e
-
--- ---- the line of a limited number, through the two calls that make it
-pub scaled-is : {x1 y1 x2 y2 v l r : ℤ} → SFits w16 x1 → SFits w16 y1 → SFits w16 x2 → SFits w16 y2 → SFits w16 v →
-    mag l < 2 ^ 15 → l ≡ limitWhole (toZ w16 (ofZ w16 v)) (toZ w16 (ofZ w16 x1)) (toZ w16 (ofZ w16 x2)) →
-    mag r < 2 ^ 15 → r ≡ lineAt (toZ w16 (ofZ w16 x1)) (toZ w16 (ofZ w16 y1)) (toZ w16 (ofZ w16 x2)) (toZ w16 (ofZ w16 y2)) (toZ w16 (ofZ w16 l)) →
-    toZ w16 (ofZ w16 r) ≡ lineAt x1 y1 x2 y2 (limitWhole v x1 x2)
-scaled-is f1 g1 f2 g2 fv hl el hr er = back hr (er ∙ rw (back hl el, toZ-ofZ f1, toZ-ofZ g1, toZ-ofZ f2, toZ-ofZ g2, toZ-ofZ fv))
 
 -- ---- a number less one that is not above it is a natural number below 65536
 pub record Gap (z : ℤ) : Type 0 where

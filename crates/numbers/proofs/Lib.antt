@@ -1,14 +1,7 @@
 pub mod Choices
 pub mod Differences
-pub mod Doubling
 pub mod ExactLaws
-pub mod Examples
-pub mod LimitLaws
-pub mod LineCalls
-pub mod LineLaws
 pub mod OrderLaws
 pub mod Orders
-pub mod RealCases
-pub mod Rounding
+pub mod SignedLaws
 pub mod Tests
-pub mod Weighing

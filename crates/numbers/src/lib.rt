@@ -1,6 +1,2 @@
-// Whole numbers and REAL32 as the paper's blocks need them.
-mod count;
-pub mod limit;
-pub mod line;
-pub mod real;
+// INTEGER16 and its pattern; specs/ has the words that all definitions choose by, proofs/ the laws of whole numbers that all proofs use.
 pub mod signed;

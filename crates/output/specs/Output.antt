@@ -1,44 +1,16 @@
 -- A current output over one tick: the paragraph "Output" of "One tick".
 -- Assumes nothing.
 use Prim.Native.Nat.{ℕ, _+_, _-_, _/_}
-use mathlib.Core.Bool.{Bool, false, not}
 use lib.Dec.{eqb}
-use lib.IntN.{ℤ, pos, negsuc, natAbs, _+ℤ_, _-ℤ_}
-use lib.Ieee.{eq, ofBits, binary32}
+use lib.IntN.{ℤ, pos, natAbs, _+ℤ_, _-ℤ_}
 use Rattle.numbers.specs.Choice.{first}
-use Rattle.numbers.specs.Limit.{limitWhole}
-use Rattle.numbers.specs.Line.{lineAt}
+use Rattle.limits.specs.Limit.{limitWhole}
+use Rattle.whole_line.specs.Line.{lineAt}
 use Rattle.numbers.specs.Order.{below}
 use Rattle.signals.specs.Signal.{isError, isAbsent, whole}
 use Rattle.output.specs.declared.Settings.{Settings}
 use Rattle.signals.specs.declared.signal.Signal.{Signal}
-use Rattle.signals.specs.declared.signal.Signal.the-variants.{Whole, Real, Error, Absent}
-
-unfoldable pub isZero : ℤ → Bool
-isZero (pos n) = eqb n 0
-isZero (negsuc n) = false
-
--- "On means a number not 0": a REAL32 counts as it stands, so -0 is off and 0.3 is on. What is no number of
--- REAL32 (NaN) is not equal to 0 and so is on; no block makes one.
-unfoldable pub isOn : Signal → Bool
-isOn (Whole v) = not (isZero v)
-isOn (Real x) = not (eq x (ofBits binary32 0))
-isOn Error = false
-isOn Absent = false
-
--- off: the number 0
-unfoldable pub isOff : Signal → Bool
-isOff (Whole v) = isZero v
-isOff (Real x) = eq x (ofBits binary32 0)
-isOff Error = false
-isOff Absent = false
-
--- "response 1 turns on and off round": only a number is on or off, so an error or a missing signal never is
-unfoldable pub turnedOn : ℕ → Signal → Bool
-turnedOn response s = first (eqb response 1) (isOff s) (isOn s)
-
-unfoldable pub turnedOff : ℕ → Signal → Bool
-turnedOff response s = first (eqb response 1) (isOn s) (isOff s)
+use Rattle.turning.specs.Turning.{turnedOn, turnedOff}
 
 -- "First rule that applies": its number in the paper. An unavailable enable is neither off nor in error, so it
 -- enables; an unavailable override is neither on nor in error, so it does nothing.

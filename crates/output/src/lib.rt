@@ -1,4 +1,4 @@
-// A current output: whether a signal turns it on or off, and the ramp to its target.
+// A current output: the ramp to its target.
 mod distances;
 
 use crate::distances::distance;
@@ -6,16 +6,11 @@ use crate::distances::lowered;
 use crate::distances::narrow;
 use crate::distances::raised;
 use exact::wide;
-use numbers::limit::limit_whole;
-use numbers::line::Point;
-use numbers::line::limited;
-use signals::signal::Signal;
+use limits::limit_whole;
+use whole_line::Point;
+use whole_line::limited;
 ghost use mathlib.Core.Path.{_≡_};
-ghost use mathlib.Core.Bool.{not};
 ghost use Prim.Native.Nat.{_<_};
-ghost use lib.Dec.{eqb};
-ghost use Rattle.numbers.specs.Choice.{first};
-ghost use Rattle.output.specs.Output.{turnedOn, turnedOff};
 ghost use Rattle.output.specs.Output.{span, step, rise, fall, moved, target, ramped};
 
 pub struct Settings {
@@ -30,39 +25,6 @@ pub struct Settings {
     pub override_fv: i16,
     pub ramp_up: u16,
     pub ramp_down: u16,
-}
-
-// Response 1 turns on and off round.
-fn turned(response: u8, on: bool) -> bool
-    ensures { λ r. ⌜ r ≡ first (eqb response 1) (not on) on ⌝ }
-{
-    if response == 1 {
-        return !on;
-    }
-    on
-}
-
-// Only a number is on or off.
-pub fn turned_on(response: u8, signal: Signal) -> bool
-    ensures { λ r. ⌜ r ≡ turnedOn response signal ⌝ }
-{
-    match signal {
-        Signal::Whole(v) => turned(response, v != 0),
-        Signal::Real(x) => turned(response, x != 0.0),
-        Signal::Error => false,
-        Signal::Absent => false,
-    }
-}
-
-pub fn turned_off(response: u8, signal: Signal) -> bool
-    ensures { λ r. ⌜ r ≡ turnedOff response signal ⌝ }
-{
-    match signal {
-        Signal::Whole(v) => turned(response, v == 0),
-        Signal::Real(x) => turned(response, x == 0.0),
-        Signal::Error => false,
-        Signal::Absent => false,
-    }
 }
 
 fn width(fv1: i16, fv2: i16) -> u32

@@ -6,7 +6,8 @@ use lib.IntN.{ℤ, pos}
 use Rattle.numbers.specs.Choice.{first}
 use Rattle.signals.specs.Signal.{isError, isAbsent}
 use Rattle.signals.specs.Signal as signals
-use Rattle.output.specs.Output.{turnedOn, faultOf, ramped}
+use Rattle.output.specs.Output.{faultOf, ramped}
+use Rattle.turning.specs.Turning.{turnedOn}
 use Rattle.unit.specs.Entry.{whole, byte}
 use Rattle.unit.specs.Sources.{sourced}
 use Rattle.outputs.specs.Outputs.{settings}

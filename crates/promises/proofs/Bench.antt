@@ -3,9 +3,9 @@
 use mathlib.Core.Path.{refl}
 use lib.Ieee.{ofBits, up, down}
 use Rattle.numbers.specs.Choice.{first}
-use Rattle.numbers.specs.Limit.{limitWhole}
-use Rattle.numbers.specs.Line.{nearestSize, nearest, between, lineAt}
-use Rattle.numbers.specs.Nearest.{limit16, nearest16}
+use Rattle.limits.specs.Limit.{limitWhole}
+use Rattle.whole_line.specs.Line.{nearestSize, nearest, between, lineAt}
+use Rattle.rounding.specs.Nearest.{limit16, nearest16}
 use Rattle.numbers.specs.Order.{below}
 use Rattle.numbers.specs.Signed.{twos, signed16}
 use Rattle.dictionary.specs.Names.{find, slot-of, writable}

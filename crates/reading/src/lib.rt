@@ -5,7 +5,7 @@ use order::in_order;
 use records::types::Outcome;
 use records::types::Refusal;
 use records::types::Walked;
-use records::walking::walk;
+use walking::walk;
 
 mod order;
 

@@ -1,4 +1,3 @@
-pub mod FindLaws
 pub mod RightLaws
 pub mod SizeLaws
 pub mod TakeLaws

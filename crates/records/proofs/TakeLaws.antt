@@ -6,7 +6,7 @@ use mathlib.Core.List.{List, [], _∷_}
 use Prim.Native.Nat.{ℕ, zero, suc, _+_, _%_, _<_, _≤_, zero-le}
 use native.Mathlib.Omega.{arith}
 use lib.Dec.{eqb, ltb}
-use lib.ListN.{length, getD, take}
+use lib.ListN.{length, getD, take, drop}
 use borrow.Author.Tests.{lt-ltb, le-ltb, eq-eqb, ne-eqb}
 use Rattle.little.specs.Little.{little}
 use Rattle.little.proofs.Parts.{placed, part}
@@ -22,7 +22,7 @@ use Rattle.entries.specs.declared.types.Verdict.the-variants.{Good, Above, Belo
 use Rattle.entries.proofs.KeyLaws.{whole-good}
 use Rattle.roles.specs.Roles.{ranged, ranges, chosen}
 use Rattle.records.specs.Layout.{Listed, size}
-use Rattle.records.specs.Rows.{role-at, entry-at}
+use Rattle.records.specs.Rows.{role-at, entry-at, greatest}
 use Rattle.records.specs.Walk.{index-in, sub-in, size-in, data-in, data-there, fits, valued, sized, decoded}
 use Rattle.records.specs.declared.types.Refusal.the-variants.{EndedEarly, NotNext, WrongSize, OutOfRange}
 use Rattle.records.specs.declared.types.Walked.{Walked}
@@ -31,34 +31,22 @@ use Rattle.records.specs.declared.types.Walked.the-variants.{Taken, Refu
 -- ---- the parts
 
 module _ (rest : List ℕ) where
-  pub index-read : 7 ≤ length rest → little (getD rest 0 0 ∷ getD rest 1 0 ∷ []) ≡ index-in rest
-  unfolding index-in placed
-  index-read h = sym (ap little (part rest 2 0 (omega arith)))
-
-  pub size-read : 7 ≤ length rest → little (getD rest 3 0 ∷ getD rest 4 0 ∷ getD rest 5 0 ∷ getD rest 6 0 ∷ []) ≡ size-in rest
-  unfolding size-in placed
-  size-read h = sym (ap little (part rest 4 3 (omega arith)))
-
-  pub count-read : 4 ≤ length rest → little (getD rest 0 0 ∷ getD rest 1 0 ∷ getD rest 2 0 ∷ getD rest 3 0 ∷ []) ≡ little (take 4 rest)
-  unfolding placed
-  count-read h = sym (ap little (part rest 4 0 h))
-
   pub data-cut : (n : ℕ) → length rest < 7 + n → 0 ≡ data-there n rest
   unfolding data-there first
   data-cut n h = rw (lt-ltb (length rest) (7 + n) h)
 
   module _ (n : ℕ) (h : 7 + n ≤ length rest) where
-    pub data-1 : n ≡ 1 → little (getD rest 7 0 ∷ 0 ∷ 0 ∷ 0 ∷ []) ≡ data-there n rest
+    pub data-1 : n ≡ 1 → little (getD rest 7 0 ∷ 0 ∷ []) ≡ data-there n rest
     unfolding data-there data-in little placed first
     data-1 e = rw (le-ltb (length rest) (7 + n) h, e, part rest 1 7 (omega arith)) (omega arith)
 
-    pub data-2 : n ≡ 2 → little (getD rest 7 0 ∷ getD rest 8 0 ∷ 0 ∷ 0 ∷ []) ≡ data-there n rest
-    unfolding data-there data-in little placed first
-    data-2 e = rw (le-ltb (length rest) (7 + n) h, e, part rest 2 7 (omega arith)) (omega arith)
+    pub data-2 : n ≡ 2 → little (take 2 (drop 7 rest)) ≡ data-there n rest
+    unfolding data-there data-in first
+    data-2 e = rw (le-ltb (length rest) (7 + n) h, e)
 
-    pub data-4 : n ≡ 4 → little (getD rest 7 0 ∷ getD rest 8 0 ∷ getD rest 9 0 ∷ getD rest 10 0 ∷ []) ≡ data-there n rest
-    unfolding data-there data-in placed first
-    data-4 e = rw (le-ltb (length rest) (7 + n) h, e, part rest 4 7 (omega arith))
+    pub data-4 : n ≡ 4 → little (take 4 (drop 7 rest)) ≡ data-there n rest
+    unfolding data-there data-in first
+    data-4 e = rw (le-ltb (length rest) (7 + n) h, e)
 
     pub data-else : (n ≡ 1 → ⊥) → (n ≡ 2 → ⊥) → (n ≡ 4 → ⊥) → 0 ≡ data-there n rest
     unfolding data-there first
@@ -93,26 +81,32 @@ module _ (row sub : ℕ) {role : ℕ} (q : role ≡ role-at row sub) where
   unfolding fits entry-at
   same-fits word = ap (λ (r : ℕ). is-good (in-range (ranged r) word)) q
 
--- up to the source's role, a role's number is the greatest value of its byte
-small-ranges : tabulate 7 0 ranged ≡ tabulate 7 0 (λ role. u8 0 role 0 .range)
-unfolding tabulate ranged ranges chosen first
+-- up to the number's role, the range of a byte is from 0 to the greatest value
+small-ranges : tabulate 8 0 ranged ≡ tabulate 8 0 (λ role. u8 0 (greatest role) 0 .range)
+unfolding tabulate ranged ranges chosen first greatest
 small-ranges = refl
 
-module _ {role : ℕ} (small : role < 7) where
-  small-range : ranged role ≡ u8 0 role 0 .range
-  small-range = agree 7 ranged (λ r. u8 0 r 0 .range) (u8 0 0 0 .range) small-ranges role small
+module _ {role : ℕ} (small : role < 8) where
+  small-range : ranged role ≡ u8 0 (greatest role) 0 .range
+  small-range = agree 8 ranged (λ r. u8 0 (greatest r) 0 .range) (u8 0 0 0 .range) small-ranges role small
 
   pub small-size : 1 ≡ width (ranged role .kind)
   unfolding width
   small-size = ap (λ (r : Range). width (r .kind)) (sym small-range)
 
-  pub small-fits : (word : ℕ) → is-good (in-range (ranged role) word) ≡ not (ltb role (word % 0x100))
+  small-fits : (word : ℕ) → is-good (in-range (ranged role) word) ≡ not (ltb (greatest role) (word % 0x100))
   unfolding is-good in-range finite within number-of below first
-  small-fits word = rw small-range (go (ltb role (word % 0x100)))
+  small-fits word = rw small-range (go (ltb (greatest role) (word % 0x100)))
     where
       go : (b : Bool) → is-good (first b Above (first (ltb (word % 0x100) 0) Below Good)) ≡ not b
       go true = refl
       go false = rw (le-ltb (word % 0x100) 0 zero-le)
+
+  pub small-unfit : {g : ℕ} → g ≡ greatest role → (word : ℕ) → g < word % 0x100 → false ≡ is-good (in-range (ranged role) word)
+  small-unfit {g} e word h = sym (small-fits word ∙ rw (← e, lt-ltb g (word % 0x100) h))
+
+  pub small-fit : {g : ℕ} → g ≡ greatest role → (word : ℕ) → word % 0x100 ≤ g → true ≡ is-good (in-range (ranged role) word)
+  small-fit {g} e word h = sym (small-fits word ∙ rw (← e, le-ltb g (word % 0x100) h))
 
 -- from the whole number's role on, every word fits
 pub whole-fits : {role : ℕ} (word : ℕ) → 17 ≤ role → is-good (in-range (ranged role) word) ≡ true

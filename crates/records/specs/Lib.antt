@@ -1,4 +1,3 @@
 pub mod Layout
-pub mod LookUp
 pub mod Rows
 pub mod Walk

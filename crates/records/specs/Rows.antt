@@ -19,6 +19,10 @@ role-at row sub =
     first (ltb (row % 0x100) 0x20) (row % 0x100)
     (first (eqb sub 5) 5 (first (eqb (sub % 2) 1) 6 7))
 
+-- "number u8 0..15"; before it, a role's number is the greatest value of its byte
+unfoldable pub greatest : ℕ → ℕ
+greatest role = first (eqb role 7) 15 role
+
 unfoldable pub entry-at : ℕ → ℕ → Listed
 entry-at row sub = record { index = row / 0x10000; sub = sub; range = ranged (role-at row sub) }
 

@@ -1,7 +1,9 @@
 // The data of a record.
 ghost use mathlib.Core.Path.{_≡_};
 ghost use Rattle.records.specs.Walk.{data-there};
-use little::four;
+use little::four_at;
+use little::two;
+use little::two_at;
 
 // Of the record at the front, if it has so many bytes of data, one, two or four; else 0.
 pub fn data_in(rest: &[u8], size: u8) -> u32
@@ -11,9 +13,9 @@ pub fn data_in(rest: &[u8], size: u8) -> u32
         return 0;
     }
     match size {
-        1 => four(rest[7], 0, 0, 0),
-        2 => four(rest[7], rest[8], 0, 0),
-        4 => four(rest[7], rest[8], rest[9], rest[10]),
+        1 => two(rest[7], 0) as u32,
+        2 => two_at(rest, 7) as u32,
+        4 => four_at(rest, 7),
         _ => 0,
     }
 }

@@ -1,8 +1,5 @@
-// The records of a configuration image: which entry each must name, whether bytes are these records, and what a record holds.
+// The records of a configuration image: what may be said of them, which role each holds, and a record's data. Taking them apart,
+// walking them and looking a name up stand in crates of their own.
 pub mod data;
-pub mod finding;
-mod heads;
 pub mod rows;
-mod taking;
 pub mod types;
-pub mod walking;

@@ -12,26 +12,39 @@ use Rattle.numbers.specs.Choice.{first}
 use Rattle.dictionary.specs.Names.{Entry, entries, slot-of, words}
 use Rattle.dictionary.specs.Rows.{u8}
 use Rattle.dictionary.specs.declared.types.Range.{Range}
-use Rattle.dictionary.proofs.Families.{Apart}
+use Rattle.dictionary.proofs.Apart.{Apart}
 use Rattle.dictionary.proofs.Sieve.{sieve, sift, sifted}
 use Rattle.roles.specs.Chains.{Neighbours, chains, upper-in, lower-in, upper-of, lower-of}
 use Rattle.roles.specs.Values.{range-of}
 use Rattle.roles.specs.Roles.{Holding, ranges, ranged, uppers, lowers, chosen, said, holding, Told}
 use Rattle.roles.specs.declared.types.Link.the-variants.{Free}
 
--- the chains by runs of neighbours, each from two slots on: the same list, with fewer names to look up
+-- the chains by runs of neighbours, each from two slots on: the same list, which the tests below look up without a name.
+-- 30z5h; 7148h, 7120h, 7122h and 7149h; 2520h and 2522h; 4y20h and 4y22h; 4521h and 4523h; 7320h and 7322h; 7321h and 7323h
 unfoldable pub run : ℕ → ℕ → Bool → ℕ → List Neighbours
 run lower upper strict zero = []
 run lower upper strict (suc n) = record { lower = lower; upper = upper; strict = strict } ∷ run (suc lower) (suc upper) strict n
 
 unfoldable pub runs : List Neighbours
-unfolding run slot-of flatMap
+unfolding run
 runs =
-    flatMap (λ z. run (slot-of (0x3005 + 0x10 * z) 1) (slot-of (0x3005 + 0x10 * z) 2) false 10) (1 ∷ 2 ∷ 3 ∷ 4 ∷ 5 ∷ 6 ∷ [])
-    ++ run (slot-of 0x7148 1) (slot-of 0x7120 1) false 4 ++ run (slot-of 0x7120 1) (slot-of 0x7122 1) true 4 ++ run (slot-of 0x7122 1) (slot-of 0x7149 1) false 4
-    ++ run (slot-of 0x2520 1) (slot-of 0x2522 1) true 12
-    ++ flatMap (λ y. run (slot-of (0x4020 + 0x100 * y) 1) (slot-of (0x4022 + 0x100 * y) 1) true 4) (6 ∷ 7 ∷ 8 ∷ 9 ∷ [])
-    ++ run (slot-of 0x4521 1) (slot-of 0x4523 1) true 4 ++ run (slot-of 0x7320 1) (slot-of 0x7322 1) true 4 ++ run (slot-of 0x7321 1) (slot-of 0x7323 1) true 4
+    run 107 108 false 10
+    ++ run 144 145 false 10
+    ++ run 181 182 false 10
+    ++ run 218 219 false 10
+    ++ run 255 256 false 10
+    ++ run 292 293 false 10
+    ++ run 583 567 false 4
+    ++ run 567 575 true 4
+    ++ run 575 587 false 4
+    ++ run 68 80 true 12
+    ++ run 446 450 true 4
+    ++ run 473 477 true 4
+    ++ run 500 504 true 4
+    ++ run 527 531 true 4
+    ++ run 422 426 true 4
+    ++ run 591 599 true 4
+    ++ run 595 603 true 4
 
 pub chains-run : chains ≡ runs
 unfolding chains runs

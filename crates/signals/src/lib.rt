@@ -1,4 +1,3 @@
-// Signals: what passes between the blocks of a tick, how a block reads one, and the two words that keep one.
+// Signals: what passes between the blocks of a tick, and how a block reads one.
 pub mod reading;
 pub mod signal;
-pub mod words;

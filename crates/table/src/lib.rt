@@ -1,9 +1,9 @@
 // A lookup table over the words of its three entries, lent by the caller.
-use numbers::line::Point;
-use numbers::line::line;
-use numbers::real::nearest;
 use numbers::signed::signed;
+use rounding::nearest;
 use signals::signal::Signal;
+use whole_line::Point;
+use whole_line::line;
 ghost use mathlib.Core.Path.{_≡_};
 ghost use Prim.Native.Nat.{_<_};
 ghost use lib.ListN.{getD};

@@ -4,8 +4,8 @@ ghost use Prim.Native.Nat.{_<_};
 ghost use Rattle.unit.specs.Held.{at-row};
 use dictionary::slots::SIGNALS;
 use dictionary::slots::Unit;
+use keeping::of_words;
 use signals::signal::Signal;
-use signals::words::of_words;
 
 pub fn held(unit: &Unit, row: usize) -> Signal
     requires { ⌜ row < 16 ⌝ }

@@ -3,9 +3,9 @@ ghost use mathlib.Core.Path.{_≡_};
 ghost use Rattle.unit.specs.Held.{laid};
 use dictionary::slots::SIGNALS;
 use dictionary::slots::Unit;
+use keeping::kind_of;
+use keeping::number_of;
 use signals::signal::Signal;
-use signals::words::kind_of;
-use signals::words::number_of;
 
 // A row past the last is no block's: nothing is laid down.
 pub fn lay(unit: &mut Unit, row: usize, signal: Signal)

@@ -9,8 +9,8 @@ use dictionary::slots::CONSTANT;
 use dictionary::slots::EC_VALUE;
 use dictionary::slots::FIXED;
 use dictionary::slots::Unit;
+use keeping::real_of;
 use signals::signal::Signal;
-use signals::words::real_of;
 use words::whole_at;
 
 // What a source has, as one number that is looked up once: where its signals begin in the row of blocks, times 16, and how many it has.

@@ -10,9 +10,9 @@ use crate::placing::put_number;
 use crate::placing::write_row;
 use crate::types::Front;
 use dictionary::slots::EC_VALUE;
-use records::rows::ROWS;
 use records::types::Outcome;
 use records::types::Refusal;
+use walking::rows::ROWS;
 
 // An entry of the configuration has a record; the slots behind them begin with the EC values.
 const RECORDS: u32 = EC_VALUE as u32;

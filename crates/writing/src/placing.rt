@@ -8,8 +8,8 @@ ghost use Rattle.little.specs.Little.{bytes};
 ghost use Rattle.records.specs.Rows.{entry-at, row-of};
 ghost use Rattle.writing.specs.Placing.{Room, Placed};
 use super::types::Front;
-use entries::ranges::width_of;
 use records::rows::role_at;
+use widths::width_of;
 
 // So many bytes of a number, low byte first.
 pub fn put_number(image: &mut [u8], at: usize, size: usize, number: u32)

@@ -4,8 +4,8 @@ use mathlib.Core.Path.{_∙_}
 use borrow.Author.Needs.{needs}
 use Rattle.naming.proofs.NameLaws.{by-object, array-of}
 use Rattle.dictionary.specs.Names.{named}
-use Rattle.dictionary.specs.Objects.{meant}
-use Rattle.dictionary.specs.declared.objects.Object.the-variants.{Unknown, Constants}
+use Rattle.objects.specs.Objects.{meant}
+use Rattle.objects.specs.declared.Object.the-variants.{Unknown, Constants}
 use Rattle.naming.proofs.find.Statement.{statement}
 use Rattle.naming.proofs.find.Tie as tie
 

@@ -1,7 +1,7 @@
 -- The line of a limited number, read through the call that gives it.
 -- Assumes nothing.
 use Rattle.output.specs.Output.{target}
-use Rattle.numbers.proofs.LineCalls.{limited-is}
+use Rattle.whole_line.proofs.LineCalls.{limited-is}
 use borrow.Author.Needs.{needs}
 use Rattle.output.proofs.aim.Statement.{statement}
 use Rattle.output.proofs.aim.Tie as tie

@@ -5,7 +5,7 @@ use mathlib.Core.Path.{_≡_, refl}
 use native.Mathlib.Omega.{arith}
 use Rattle.numbers.proofs.ExactLaws.{back}
 use Rattle.numbers.specs.Choice.{first}
-use Rattle.output.specs.Output.{turnedOff}
+use Rattle.turning.specs.Turning.{turnedOff}
 use Rattle.unit.proofs.Slots.{has}
 use Rattle.unit.specs.Entry.{byte}
 use Rattle.unit.specs.Sources.{sourced}

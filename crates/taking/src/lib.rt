@@ -1,0 +1,124 @@
+// One record, and the records of one row.
+ghost use mathlib.Core.Path.{_≡_};
+ghost use Prim.Native.Nat.{_≤_, _<_};
+ghost use lib.ListN.{length};
+ghost use Rattle.dictionary.specs.Rows.{width};
+ghost use Rattle.roles.specs.Roles.{ranged};
+ghost use Rattle.records.specs.Rows.{role-at, greatest, entry-at, row-of};
+ghost use Rattle.records.specs.Walk.{sized, decoded, walked};
+use entries::ranges::fits;
+use little::four_at;
+use little::two_at;
+use records::data::data_in;
+use records::rows::role_at;
+use records::types::Refusal;
+use records::types::Walked;
+use roles::telling::NUMBER;
+use roles::telling::WHOLE;
+use widths::width_of;
+
+// A record of a role and its size.
+fn take_sized(rest: &[u8], row: u32, sub: u8, role: u8, size: u8) -> Walked
+    requires { ⌜ (7 ≤ length (now rest)) × (role ≡ role-at row sub) × (size ≡ width (ranged role .kind)) ⌝ }
+    ensures { λ r. ⌜ r ≡ sized (entry-at row sub) (now (rest .entry)) ⌝ }
+{
+    if four_at(rest, 3) != size as u32 {
+        return Walked::Refused(Refusal::WrongSize);
+    }
+    if rest.len() < 7 + size as usize {
+        return Walked::Refused(Refusal::EndedEarly);
+    }
+    if fits(role, data_in(rest, size)) {
+        return Walked::Taken(7 + size as usize);
+    }
+    Walked::Refused(Refusal::OutOfRange)
+}
+
+// Of the small bytes: a number goes up to 15, before it a role's number is the greatest value.
+fn greatest_of(role: u8) -> u8
+    ensures { λ r. ⌜ r ≡ greatest role ⌝ }
+{
+    if role == NUMBER {
+        return 15;
+    }
+    role
+}
+
+// A byte from 0 to its greatest value, as every second entry is.
+fn take_small(rest: &[u8], row: u32, sub: u8, role: u8) -> Walked
+    requires { ⌜ (7 ≤ length (now rest)) × (role ≡ role-at row sub) × (role < 8) ⌝ }
+    ensures { λ r. ⌜ r ≡ sized (entry-at row sub) (now (rest .entry)) ⌝ }
+{
+    if four_at(rest, 3) != 1 {
+        return Walked::Refused(Refusal::WrongSize);
+    }
+    if rest.len() < 8 {
+        return Walked::Refused(Refusal::EndedEarly);
+    }
+    if (greatest_of(role) as u32) < data_in(rest, 1) % 0x100 {
+        return Walked::Refused(Refusal::OutOfRange);
+    }
+    Walked::Taken(8)
+}
+
+// An INTEGER16 with its whole range.
+fn take_whole(rest: &[u8], row: u32, sub: u8, role: u8) -> Walked
+    requires { ⌜ (7 ≤ length (now rest)) × (role ≡ role-at row sub) × (17 ≤ role) ⌝ }
+    ensures { λ r. ⌜ r ≡ sized (entry-at row sub) (now (rest .entry)) ⌝ }
+{
+    if four_at(rest, 3) != 2 {
+        return Walked::Refused(Refusal::WrongSize);
+    }
+    if rest.len() < 9 {
+        return Walked::Refused(Refusal::EndedEarly);
+    }
+    Walked::Taken(9)
+}
+
+// A record whose name is right.
+fn take_named(rest: &[u8], row: u32, sub: u8) -> Walked
+    requires { ⌜ 7 ≤ length (now rest) ⌝ }
+    ensures { λ r. ⌜ r ≡ sized (entry-at row sub) (now (rest .entry)) ⌝ }
+{
+    let role = role_at(row, sub);
+    if role <= NUMBER {
+        return take_small(rest, row, sub, role);
+    }
+    if WHOLE <= role {
+        return take_whole(rest, row, sub, role);
+    }
+    take_sized(rest, row, sub, role, width_of(role))
+}
+
+fn take_record(rest: &[u8], row: u32, sub: u8) -> Walked
+    ensures { λ r. ⌜ r ≡ decoded (entry-at row sub) (now (rest .entry)) ⌝ }
+{
+    if rest.len() < 7 {
+        return Walked::Refused(Refusal::EndedEarly);
+    }
+    if two_at(rest, 0) as u32 != row / 0x1_0000 {
+        return Walked::Refused(Refusal::NotNext);
+    }
+    if rest[2] != sub {
+        return Walked::Refused(Refusal::NotNext);
+    }
+    take_named(rest, row, sub)
+}
+
+// The records of a row, one after the other.
+pub fn take_row(body: &[u8], row: u32) -> Walked
+    ensures { λ r. ⌜ r ≡ walked (row-of row) (now (body .entry)) ⌝ }
+{
+    let last = (row / 0x100 % 0x10) as u8;
+    let mut sub = (row / 0x1000 % 0x10) as u8;
+    let mut rest = body;
+    while sub <= last {
+        let record = take_record(rest, row, sub);
+        let Walked::Taken(n) = record else {
+            return record;
+        };
+        rest = &rest[n..];
+        sub += 1;
+    }
+    Walked::Taken(body.len() - rest.len())
+}

@@ -1,0 +1,48 @@
+// An image from its front: the count, then the records, row after row.
+pub mod rows;
+
+ghost use mathlib.Core.Path.{_≡_};
+ghost use mathlib.Core.List.{flatMap};
+ghost use Rattle.records.specs.Rows.{row-of};
+ghost use Rattle.records.specs.Walk.{walked, taken-in};
+use crate::rows::ROWS;
+use dictionary::slots::EC_VALUE;
+use little::four_at;
+use records::types::Refusal;
+use records::types::Walked;
+use taking::take_row;
+
+// The records of some rows, one after the other.
+fn walk_rows(body: &[u8], rows: &[u32]) -> Walked
+    ensures { λ r. ⌜ r ≡ walked (flatMap row-of (now (rows .entry))) (now (body .entry)) ⌝ }
+{
+    let mut at: usize = 0;
+    let mut rest = body;
+    while at < rows.len() {
+        let row = take_row(rest, rows[at]);
+        let Walked::Taken(n) = row else {
+            return row;
+        };
+        rest = &rest[n..];
+        at += 1;
+    }
+    Walked::Taken(body.len() - rest.len())
+}
+
+// Any bytes, as an image: its count, then its records.
+pub fn walk(image: &[u8]) -> Walked
+    ensures { λ r. ⌜ r ≡ taken-in (now (image .entry)) ⌝ }
+{
+    if image.len() < 4 {
+        return Walked::Refused(Refusal::EndedEarly);
+    }
+    if four_at(image, 0) as usize != EC_VALUE {
+        return Walked::Refused(Refusal::WrongCount);
+    }
+    let rows = ROWS;
+    let records = walk_rows(&image[4..], &rows);
+    let Walked::Taken(n) = records else {
+        return records;
+    };
+    Walked::Taken(4 + n)
+}
