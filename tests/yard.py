@@ -20,7 +20,7 @@ import images
 import images_cases
 import images_model
 from images import sides
-from lists import DEFAULT, with_records
+from lists import DEFAULT, MOVED_POINTS, with_records
 
 SECONDS = 60  # far more than a run needs; what hangs is ended
 UNIT = str(sides.ROOT / "run")
@@ -35,19 +35,8 @@ KEPT_SETTINGS = """
     231050030000803F 2F10210100000000 2F00450101000000 2B002501E7030000
 """
 KEPT = with_records(
-    DEFAULT,
+    MOVED_POINTS,
     "10 21 01 01 00 00 00 00",
-    "15 30 01 02 00 00 00 F4 01",
-    "15 30 02 02 00 00 00 58 02",
-    "15 30 03 02 00 00 00 BC 02",
-    "15 30 04 02 00 00 00 20 03",
-    "15 30 05 02 00 00 00 84 03",
-    "15 30 06 02 00 00 00 E8 03",
-    "15 30 07 02 00 00 00 4C 04",
-    "15 30 08 02 00 00 00 B0 04",
-    "15 30 09 02 00 00 00 14 05",
-    "15 30 0A 02 00 00 00 78 05",
-    "15 30 0B 02 00 00 00 DC 05",
     "00 45 01 01 00 00 00 01",
     "10 50 03 04 00 00 00 00 00 80 3F",
     "20 71 02 02 00 00 00 8A 13",
