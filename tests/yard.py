@@ -20,7 +20,7 @@ import images
 import images_cases
 import images_model
 from images import sides
-from lists import DEFAULT, MOVED_POINTS, with_records
+from lists import MOVED_POINTS, with_records
 
 SECONDS = 60  # far more than a run needs; what hangs is ended
 UNIT = str(sides.ROOT / "run")

@@ -11,6 +11,9 @@ use lib.ListN.{length}
 use Rattle.numbers.specs.Choice.{first}
 use Rattle.records.specs.declared.types.Outcome.{Outcome}
 use Rattle.records.specs.declared.types.Outcome.the-variants.{Good, Refused}
+use Rattle.records.specs.Walk.{outcome-number}
+use Rattle.records.specs.declared.types.Refusal.{Refusal}
+use Rattle.refusals.specs.Told as image
 use Rattle.reading.specs.Reading.{reading}
 use Rattle.changes.specs.Changes.{list-of}
 use Rattle.changes.proofs.LengthLaws.{list-short}
@@ -21,6 +24,11 @@ use Rattle.gateway.specs.Restored.{told, outcome, Restored}
 
 apart : _≡_ {A = ℕ} 0 1 → ⊥
 apart z = omega arith
+
+-- "-n for the current image", as for an image alone
+pub current-told : (why : Refusal) → image.told (Refused why) ≡ told (Current why)
+unfolding image.told outcome-number told
+current-told why = refl
 
 module _ {current wanted buffer buffer′ : List ℕ} {r : Made} (l : Listing current wanted buffer buffer′ r) where
   pub as-told : {z : ℤ} → z ≡ told r → Restored current wanted buffer buffer′ z

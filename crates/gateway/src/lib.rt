@@ -1,26 +1,12 @@
 // The list maker for a gateway written in C; restore_list.h tells a C programmer all of it.
 ghost use mathlib.Core.Path.{_≡_};
 ghost use Rattle.gateway.specs.Restored.{told, Restored};
-ghost use Rattle.lists.specs.declared.types.Made.the-variants.{Current, Wanted};
+ghost use Rattle.lists.specs.declared.types.Made.the-variants.{Wanted};
 use lists::make_list;
 use lists::types::Made;
+use records::types::Outcome;
 use records::types::Refusal;
-
-// "-n for the current image"
-fn current_refused(why: Refusal) -> i32
-    ensures { λ r. ⌜ r ≡ told (Current why) ⌝ }
-{
-    match why {
-        Refusal::EndedEarly => -1,
-        Refusal::WrongCount => -2,
-        Refusal::NotNext => -3,
-        Refusal::WrongSize => -4,
-        Refusal::OutOfRange => -5,
-        Refusal::OutOfOrder => -6,
-        Refusal::LeftOver => -7,
-        Refusal::NoRoom => -8,
-    }
-}
+use refusals::number_of;
 
 // "-(10+n) for the wanted"
 fn wanted_refused(why: Refusal) -> i32
@@ -45,7 +31,7 @@ pub extern "C" fn restore_list(current: &[u8], wanted: &[u8], list: &mut [u8]) -
 {
     match make_list(current, wanted, list) {
         Made::Done(n) => n as i32,
-        Made::Current(why) => current_refused(why),
+        Made::Current(why) => number_of(Outcome::Refused(why)),
         Made::Wanted(why) => wanted_refused(why),
         Made::NoRoom => -8,
     }

@@ -7,7 +7,7 @@ use lib.IntN.{pos}
 use mir.Facts.{toZ-ofZ}
 use mir.Syntax.{w32}
 use Rattle.gateway.specs.Restored.{told}
-use Rattle.gateway.proofs.ToldLaws.{as-told, done-short}
+use Rattle.gateway.proofs.ToldLaws.{as-told, done-short, current-told}
 use borrow.Author.Needs.{needs}
 use Rattle.gateway.proofs.restore_list.Statement.{statement}
 use Rattle.gateway.proofs.restore_list.Tie as tie
@@ -24,8 +24,8 @@ cast-result c = omega (arith, done-short (c .before .before .before .before .bef
 enum-known-why : tie.Need-enum-known-why
 enum-known-why c = search needs
 
-current-refused-requires : tie.Need-current-refused-requires
-current-refused-requires c κs = search needs
+number-of-requires : tie.Need-number-of-requires
+number-of-requires c κs = search needs
 
 enum-known-why-2 : tie.Need-enum-known-why-2
 enum-known-why-2 c = search needs
@@ -49,7 +49,7 @@ same-length-2 : tie.Need-same-length-2
 same-length-2 c = search needs
 
 returns-2 : tie.Need-returns-2
-returns-2 c = as-told (c .before .before .before .before .before .before .make-list .ensures) (toZ-ofZ (sfits-of (c .current-refused .ok)) ∙ c .current-refused .ensures ∙ ap told (sym (c .before .before .why .given .1)))
+returns-2 c = as-told (c .before .before .before .before .before .before .make-list .ensures) (toZ-ofZ (sfits-of (c .number-of .ok)) ∙ c .number-of .ensures ∙ current-told _ ∙ ap told (sym (c .before .before .why .given .1)))
 
 same-length-3 : tie.Need-same-length-3
 same-length-3 c = search needs
@@ -72,7 +72,7 @@ restore-list-spec =
     enum-known-n
     cast-result
     enum-known-why
-    current-refused-requires
+    number-of-requires
     enum-known-why-2
     wanted-refused-requires
     enum-told
