@@ -2,14 +2,14 @@
 -- Assumes nothing.
 use mathlib.Core.Path.{_≡_, refl, sym, ap, _∙_}
 use mathlib.Core.Bool.{Bool, true, false, _&&_, _||_, and-eq-true-iff}
-use mathlib.Core.List.{List, [], _∷_, _++_, map, flatMap}
-use Prim.Native.Nat.{ℕ, zero, suc, _+_, _-_, _*_, _%_, _^_, _<_, _≤_}
+use mathlib.Core.List.{List, [], _∷_, _++_, map}
+use Prim.Native.Nat.{ℕ, zero, suc, _+_, _-_, _%_, _^_, _<_, _≤_}
 use native.Mathlib.Omega.{arith}
 use lib.Dec.{eqb, ltb, leb}
 use lib.ListN.{getD, take, drop, length-map, List·getD-eq-default}
 use borrow.Author.Tests.{eq-eqb, eqb-true, lt-ltb, le-leb, le-ltb, leb-true, ltb-true, ne-eqb}
 use Rattle.numbers.specs.Choice.{first}
-use Rattle.dictionary.specs.Names.{Entry, entries, slot-of, words}
+use Rattle.dictionary.specs.Names.{Entry, entries, words}
 use Rattle.dictionary.specs.Rows.{u8}
 use Rattle.dictionary.specs.declared.types.Range.{Range}
 use Rattle.dictionary.proofs.Apart.{Apart}

@@ -1,11 +1,11 @@
 -- REAL32 to INTEGER16: each return is one of the definition's five cases.
 -- Assumes nothing.
-use Prim.Native.Nat.{ℕ, _+_, _-_, _*_, _≤_}
-use mathlib.Core.Path.{_≡_, ap, sym, _∙_}
+use Prim.Native.Nat.{ℕ, _*_, _≤_}
+use mathlib.Core.Path.{ap, sym, _∙_}
 use native.Mathlib.Omega.{arith}
 use borrow.Author.Needs.{needs}
 use lib.Dec.{T}
-use lib.IntN.{pos, negℤ, _-ℤ_}
+use lib.IntN.{pos, negℤ}
 use lib.Ieee.{ofBits, neg}
 use lib.Ieee.Positive.{positive, num, den, den-pos}
 use mir.Facts.{toZ-ofZ}

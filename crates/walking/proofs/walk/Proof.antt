@@ -1,7 +1,7 @@
 -- `walking::walk` meets its contract: the rows are those of the listed entries, by computing.
 -- Assumes nothing.
 use mathlib.Core.Path.{_≡_, refl, sym, ap, _∙_}
-use mathlib.Core.List.{List, flatMap}
+use mathlib.Core.List.{flatMap}
 use Rattle.numbers.specs.Choice.{first}
 use Rattle.dictionary.specs.Names.{configured}
 use Rattle.roles.specs.Roles.{ranged, ranges, chosen}

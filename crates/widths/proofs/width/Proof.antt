@@ -1,4 +1,4 @@
--- `widths::width` meets its contract: a slot's type is its role's (`KeyLaws`).
+-- `widths::width` meets its contract: a slot's type is its role's (`WidthLaws`).
 -- Assumes nothing.
 use mathlib.Core.Path.{ap, _∙_}
 use borrow.Author.Needs.{needs}

@@ -1,4 +1,4 @@
--- `widths::width_of` meets its contract: a role has the range that its number stands for (`KeyLaws`).
+-- `widths::width_of` meets its contract: a role has the range that its number stands for (`WidthLaws`).
 -- Assumes nothing.
 use native.Mathlib.Omega.{arith}
 use borrow.Author.Needs.{needs}

@@ -1,4 +1,4 @@
--- `entries::limits::kind_of` meets its contract: a role has the range that its number stands for (`KeyLaws`).
+-- `entries::limits::kind_of` meets its contract: a role has the range that its number stands for (`WidthLaws`).
 -- Assumes nothing.
 use mathlib.Core.Path.{refl}
 use native.Mathlib.Omega.{arith}

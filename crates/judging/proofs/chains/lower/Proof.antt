@@ -1,4 +1,4 @@
--- `judging::chains::lower` meets its contract: a role has its neighbours at fixed distances (`KeyLaws`).
+-- `judging::chains::lower` meets its contract: a role has its neighbours at fixed distances (`ChainLaws`).
 -- Assumes nothing.
 use mathlib.Core.Path.{refl}
 use native.Mathlib.Omega.{arith}
