@@ -63,7 +63,7 @@ pub record State (wanted notes₀ : List ℕ) (ups : ℕ) (ps notes : List ℕ) 
   pub high : n .high ≡ n .low + length ps
   pub long : n .long ≡ 4 + length (flatMap (record-from wanted) ps)
 
--- so many slots more have room
+-- so many slots more have room, and the bytes of their records are too few to wrap
 pub record Room (more : ℕ) (notes : List ℕ) (n : Noted) : Type 0 where
   pub sorted : n .low ≤ n .high
   pub before : more ≤ n .low

@@ -6,11 +6,12 @@ pub mod types;
 ghost use Rattle.changes.specs.Changes.{Finding};
 use crate::noting::note_all;
 use crate::types::Found;
+use crate::types::NOTES;
 use reading::check;
 use records::types::Outcome;
 
 // Any bytes; a refusal notes nothing.
-pub fn find_changes(current: &[u8], wanted: &[u8], notes: &mut [u16; 1222]) -> Found
+pub fn find_changes(current: &[u8], wanted: &[u8], notes: &mut [u16; NOTES]) -> Found
     ensures { λ r. ⌜ Finding (now (current .entry)) (now (wanted .entry)) (now (notes .entry)) (now (notes .exit)) r ⌝ }
 {
     match check(current) {

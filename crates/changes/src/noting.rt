@@ -90,7 +90,7 @@ fn note_stretch(
     n
 }
 
-// All entries: 7148h before 7120h, else in the order of the image.
+// All entries: 7148h before 7120h, else in the order of the image; each stretch with the place where its first record begins.
 pub fn note_all(current: &[u8], wanted: &[u8], notes: &mut [u16]) -> Noted
     requires { ⌜ (reading (now current) ≡ outcome.Good) × (reading (now wanted) ≡ outcome.Good) × (length (now notes) ≡ 1222) ⌝ }
     ensures { λ r. ⌜ (r ≡ noted (now (current .entry)) (now (wanted .entry))) × (now (notes .exit) ≡ sets (now (notes .entry)) (r .low) (places (now (current .entry)) (now (wanted .entry)))) ⌝ }

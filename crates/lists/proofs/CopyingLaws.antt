@@ -83,20 +83,24 @@ module _ (wanted places list₀ list : List ℕ) (at k : ℕ) (l : Left wanted p
 
 -- ---- the record at a place
 
-pub eight-put : (list wanted : List ℕ) (at place : ℕ) → place + 8 ≤ length wanted
-    → set (set (set (set (set (set (set (set list at (getD wanted place 0)) (at + 1) (getD wanted (place + 1) 0)) (at + 2) (getD wanted (place + 2) 0)) (at + 3) (getD wanted (place + 3) 0))
-    (at + 4) (getD wanted (place + 4) 0)) (at + 5) (getD wanted (place + 5) 0)) (at + 6) (getD wanted (place + 6) 0)) (at + 7) (getD wanted (place + 7) 0)
-    ≡ sets list at (take 8 (drop place wanted))
+pub four-put : (list wanted : List ℕ) (at place : ℕ) → place + 4 ≤ length wanted
+    → set (set (set (set list at (getD wanted place 0)) (at + 1) (getD wanted (place + 1) 0)) (at + 2) (getD wanted (place + 2) 0)) (at + 3) (getD wanted (place + 3) 0)
+    ≡ sets list at (take 4 (drop place wanted))
 unfolding placed
-eight-put list wanted at place h =
+four-put list wanted at place h =
     let next : (n : ℕ) → n + 1 ≡ suc n = λ n. omega arith in
     let two : (n : ℕ) → n + 2 ≡ suc (suc n) = λ n. omega arith in
     let three : (n : ℕ) → n + 3 ≡ suc (suc (suc n)) = λ n. omega arith in
-    let four : (n : ℕ) → n + 4 ≡ suc (suc (suc (suc n))) = λ n. omega arith in
-    let five : (n : ℕ) → n + 5 ≡ suc (suc (suc (suc (suc n)))) = λ n. omega arith in
-    let six : (n : ℕ) → n + 6 ≡ suc (suc (suc (suc (suc (suc n))))) = λ n. omega arith in
-    let seven : (n : ℕ) → n + 7 ≡ suc (suc (suc (suc (suc (suc (suc n)))))) = λ n. omega arith in
-    rw (part wanted 8 place h, next at, next place, two at, two place, three at, three place, four at, four place, five at, five place, six at, six place, seven at, seven place)
+    rw (part wanted 4 place h, next at, next place, two at, two place, three at, three place)
+
+pub eight-put : (list wanted : List ℕ) (at place : ℕ) → place + 8 ≤ length wanted → {list′ list″ : List ℕ}
+    → list′ ≡ sets list at (take 4 (drop place wanted)) → list″ ≡ sets list′ (at + 4) (take 4 (drop (place + 4) wanted))
+    → list″ ≡ sets list at (take 8 (drop place wanted))
+eight-put list wanted at place h p q =
+    let room = length-drop place wanted in
+    let four = length-take-le 4 (drop place wanted) (omega arith) in
+    q ∙ rw (p, take-add 4 4 (drop place wanted), drop-drop 4 place wanted)
+    (sym (sets-append (take 4 (drop place wanted)) (take 4 (drop (place + 4) wanted)) list at ∙ rw four))
 
 module _ (wanted : List ℕ) (place : ℕ) (s : Stands wanted place) {end : ℕ} (e : end ≡ place + 7 + getD wanted (place + 3) 0) where
   end-told : end ≡ place + 7 + size-in (drop place wanted)

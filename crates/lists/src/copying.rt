@@ -20,27 +20,28 @@ fn put(list: &mut [u8], at: usize, part: &[u8])
     }
 }
 
-// Eight bytes, which no record has fewer of: all are read before one is written, so that they can go as one word.
-fn put_eight(list: &mut [u8], at: usize, wanted: &[u8], place: usize)
-    requires { ⌜ (at + 8 ≤ length (now list)) × (place + 8 ≤ length (now wanted)) ⌝ }
-    ensures { λ _. ⌜ now (list .exit) ≡ sets (now (list .entry)) at (take 8 (drop place (now (wanted .entry)))) ⌝ }
+// Four bytes: all are read before one is written, so that they can go as one word.
+fn put_four(list: &mut [u8], at: usize, wanted: &[u8], place: usize)
+    requires { ⌜ (at + 4 ≤ length (now list)) × (place + 4 ≤ length (now wanted)) ⌝ }
+    ensures { λ _. ⌜ now (list .exit) ≡ sets (now (list .entry)) at (take 4 (drop place (now (wanted .entry)))) ⌝ }
 {
     let a = wanted[place];
     let b = wanted[place + 1];
     let c = wanted[place + 2];
     let d = wanted[place + 3];
-    let e = wanted[place + 4];
-    let f = wanted[place + 5];
-    let g = wanted[place + 6];
-    let h = wanted[place + 7];
     list[at] = a;
     list[at + 1] = b;
     list[at + 2] = c;
     list[at + 3] = d;
-    list[at + 4] = e;
-    list[at + 5] = f;
-    list[at + 6] = g;
-    list[at + 7] = h;
+}
+
+// Eight bytes, which no record has fewer of.
+fn put_eight(list: &mut [u8], at: usize, wanted: &[u8], place: usize)
+    requires { ⌜ (at + 8 ≤ length (now list)) × (place + 8 ≤ length (now wanted)) ⌝ }
+    ensures { λ _. ⌜ now (list .exit) ≡ sets (now (list .entry)) at (take 8 (drop place (now (wanted .entry)))) ⌝ }
+{
+    put_four(list, at, wanted, place);
+    put_four(list, at + 4, wanted, place + 4);
 }
 
 // The record that begins at a place of the image, and where the next one goes. Most records have two bytes of data.

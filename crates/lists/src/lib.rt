@@ -7,12 +7,13 @@ use crate::copying::write_list;
 use crate::types::Made;
 use changes::find_changes;
 use changes::types::Found;
+use changes::types::NOTES;
 
 // Any bytes, any buffer: the list at the front of the buffer, or nothing where an image is refused or the list does not fit.
 pub fn make_list(current: &[u8], wanted: &[u8], list: &mut [u8]) -> Made
     ensures { λ r. ⌜ Listing (now (current .entry)) (now (wanted .entry)) (now (list .entry)) (now (list .exit)) r ⌝ }
 {
-    let mut notes: [u16; 1222] = [0; 1222];
+    let mut notes: [u16; NOTES] = [0; NOTES];
     match find_changes(current, wanted, &mut notes) {
         Found::Current(why) => Made::Current(why),
         Found::Wanted(why) => Made::Wanted(why),
