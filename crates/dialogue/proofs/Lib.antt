@@ -1,0 +1,5 @@
+pub mod Bytes
+pub mod Pieces
+pub mod Short
+pub mod Steps
+pub mod Told
