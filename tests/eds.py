@@ -68,6 +68,7 @@ VALUE = {
     "DefaultValue": REAL,
     "PDOMapping": "0",  # PDO are left to others
 }
+SUBS = ["sub%X" % sub for sub in range(255)]
 ARRAY = {"ParameterName": VALUE["ParameterName"], "ObjectType": "0x8", "SubNumber": r"\d+"}
 
 MANDATORY = (0x1000, 0x1001, 0x1018)
@@ -123,19 +124,22 @@ def fits(title, section, layout):
         demand(re.fullmatch(form, section[key]), "[%s]: %s=%s" % (title, key, section[key]))
 
 
+LINE = re.compile(rb"(\[\w+\]|\w+=([!-~]([ -~]*[!-~])?)?)?", re.ASCII)
+
+
 def sections_of(data):
     """The file's sections, by an ini parser that refuses what stands twice."""
     lines = data.split(b"\r\n")
     demand(lines.pop() == b"", "the last line has no end")
     for line in lines:
-        demand(len(line) <= 255 and re.fullmatch(rb"(\[\w+\]|\w+=([!-~]([ -~]*[!-~])?)?)?", line, re.ASCII), "line %r" % line)
+        demand(len(line) <= 255 and LINE.fullmatch(line), "line %r" % line)
     parser = configparser.RawConfigParser(delimiters="=", comment_prefixes=None, default_section="", strict=True)
     parser.optionxform = str
     try:
         parser.read_string(data.decode("ascii"))
     except configparser.Error as error:
         raise Fault(str(error)) from error
-    return {title: dict(parser[title]) for title in parser.sections()}
+    return {title: dict(parser.items(title)) for title in parser.sections()}
 
 
 class Sheet:
@@ -183,12 +187,11 @@ class Sheet:
             return self._value(index, 0, title, section)
         fits(title, section, ARRAY)
         self.called.append(section["ParameterName"])
-        subs = [sub for sub in range(255) if "%ssub%X" % (title, sub) in self.sections]
+        subs = [sub for sub, number in enumerate(SUBS) if title + number in self.sections]
         demand(int(section["SubNumber"]) == len(subs), "[%s]: SubNumber=%s" % (title, section["SubNumber"]))
         demand(subs[:1] == [0], "[%s]: no sub 0" % title)
         for sub in subs:
-            sub_title = "%ssub%X" % (title, sub)
-            self._value(index, sub, sub_title, self._taken(sub_title))
+            self._value(index, sub, title + SUBS[sub], self._taken(title + SUBS[sub]))
         largest = self.entries[index, 0]
         demand(largest.type is model.UNSIGNED8 and not largest.writable, "[%ssub0]: not a read-only UNSIGNED8" % title)
         demand(largest.low == largest.default == largest.high == subs[-1], "[%ssub0]: not the largest sub" % title)
