@@ -124,7 +124,8 @@ def fits(title, section, layout):
         demand(re.fullmatch(form, section[key]), "[%s]: %s=%s" % (title, key, section[key]))
 
 
-LINE = re.compile(rb"(\[\w+\]|\w+=([!-~]([ -~]*[!-~])?)?)?", re.ASCII)
+# A head, a key with its value, or nothing; ASCII, no spaces at the ends, and no ";", with which some readers begin a comment.
+LINE = re.compile(rb"(\[\w+\]|\w+=([!-:<-~]([ -:<-~]*[!-:<-~])?)?)?", re.ASCII)
 
 
 def sections_of(data):

@@ -106,6 +106,7 @@ WRONG = (
     ("line feeds alone", "layout", swapped(b"\r\n", b"\n")),
     ("a letter that is not ASCII", "layout", swapped(b"(ms)", "(µs)".encode())),
     ("a space at a line's end", "layout", swapped(b"EDSVersion=4.0", b"EDSVersion=4.0 ")),
+    ("a semicolon in a value", "layout", swapped(b"controller: object", b"controller; object")),
     ("a date the other way round", "layout", put("FileInfo", "CreationDate=15-11-2026")),
     ("a vendor invented", "layout", put("DeviceInfo", "VendorNumber=661")),
     ("a baud rate invented", "layout", put("DeviceInfo", "BaudRate_125=1")),
