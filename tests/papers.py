@@ -1,7 +1,7 @@
 """The documents against the tree: what they name is there, and TRUST.md's tables are what is found.
 
     python3 papers.py            status 1 at a crate, file, edit, function or definition that is named and is not there,
-                                 or at a table that is not as found
+                                 at a table that is not as found, or at a public function without its contract
     python3 papers.py --write    writes TRUST.md's tables anew, in place
 
 Looked at are README.md, docs/ and the README.md of tests/ and bench/: names in backticks, and in TRACE.md the words before
@@ -203,18 +203,36 @@ def missing_definitions():
                 yield "%s %s" % (file, word)
 
 
+# --------------------------------------------------------------------------- Contracts
+
+
+def heads(file):
+    """Each public function of a file with what stands between its name and its body."""
+    for text in re.split(r"^ *pub (?:extern \"C\" )?fn ", file.read_text(), flags=re.M)[1:]:
+        yield re.match(r"\w+", text)[0], re.split(r"^ *\{$|\) [^{}\n]*\{$", text, maxsplit=1, flags=re.M)[0]
+
+
+def bare_functions():
+    """Public functions that ask something of their callers, or that promise nothing."""
+    for lib in CRATES.glob("*/src/lib.rt"):
+        for file in public(lib):
+            for name, head in heads(file):
+                if "requires {" in head or "ensures {" not in head:
+                    yield "%s: %s has a requires, or no ensures" % (file.relative_to(ROOT), name)
+
+
 def main(words):
     if words == ["--write"]:
         TRUST.write_text(with_tables(TRUST.read_text()))
         return 0
     missing = ["%s: %s" % (paper.relative_to(ROOT), name) for paper in PAPERS for name in missing_names(paper)]
     missing += ["docs/TRACE.md: " + name for name in (*missing_edits(), *missing_definitions())]
-    for name in missing:
-        print("%s is not there" % name)
+    bare = list(bare_functions())
+    print("".join("%s is not there\n" % name for name in missing) + "".join("%s\n" % name for name in bare), end="")
     stale = with_tables(TRUST.read_text()) != TRUST.read_text()
     if stale:
         print("docs/TRUST.md: its tables are not as found; python3 tests/papers.py --write, then read what changed")
-    return 1 if missing or stale else 0
+    return 1 if missing or bare or stale else 0
 
 
 if __name__ == "__main__":
