@@ -9,6 +9,7 @@ them too. A file of definitions has to be believed if one is led to it, by what 
 stands at the edge: of a function that C calls, that a program uses, or that nothing else in the tree uses.
 """
 
+import fnmatch
 import functools
 import pathlib
 import re
@@ -19,6 +20,7 @@ CRATES = ROOT / "crates"
 TRUST = ROOT / "docs" / "TRUST.md"
 PAPERS = [ROOT / "README.md", *sorted((ROOT / "docs").glob("*.md")), ROOT / "tests" / "README.md", ROOT / "bench" / "README.md"]
 LEANING = {name: below.split() for name, below in re.findall(r"^(\w+):(.*)", (ROOT / "crates.txt").read_text(), re.M)}
+WORDS = ("crates.txt", "crates/**/*.rt", "crates/**/*.antt", "crates/*/*.h", "bench/*", "tests/*")
 TICKED = re.compile(r"`([^`]+)`")
 
 # --------------------------------------------------------------------------- TRUST.md's tables
@@ -158,12 +160,11 @@ def is_there(name, paper):
     if re.fullmatch(r"[A-Z]\w*\.[\w*-]+", name):
         module, law = name.split(".")
         return law in words_of("crates/*/specs/**/%s.antt" % module, "crates/*/proofs/**/%s.antt" % module)
-    if re.fullmatch(r"[a-z]\w*::\w+", name):
+    if re.fullmatch(r"[a-z]\w*::[\w*]+", name):
         module, function = name.split("::")
-        return function in words_of("crates/%s/src/lib.rt" % module, "crates/*/src/**/%s.rt" % module)
+        return bool(fnmatch.filter(words_of("crates/%s/src/lib.rt" % module, "crates/*/src/**/%s.rt" % module), function))
     if re.fullmatch(r"\w[\w-]*|[A-Z]\w*::\w+", name):
-        edits = any(CRATES.glob("*/must-fail/%s.edit" % name))
-        return edits or {*name.split("::")} <= words_of("crates.txt", "crates/**/*.rt", "crates/**/*.antt", "crates/*/*.h", "bench/*", "tests/*")
+        return any(CRATES.glob("*/must-fail/%s.edit" % name)) or {*name.split("::")} <= words_of(*WORDS)
     return all(is_file(word, paper) for word in name.split() if is_path(word))
 
 
