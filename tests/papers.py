@@ -191,6 +191,12 @@ def missing_edits():
             yield from ("%s `%s`" % (crate, edit) for crate in crates if not any(CRATES.glob("%s/must-fail/%s.edit" % (crate, edit))))
 
 
+def missing_readings():
+    """Wrong readings that TRACE.md names in its last column, in quotes, and that are not tried."""
+    tried = (ROOT / "tests" / "other_readings.py").read_text()
+    return ['"%s"' % title for piece in cells(3) for title in re.findall(r'"([^"]+)"', piece) if title + '", ' not in tried]
+
+
 def missing_definitions():
     """Definitions that TRACE.md names in its second column, as 'crate File `name`', and that are not there."""
     for piece in cells(1):
@@ -227,7 +233,7 @@ def main(words):
         TRUST.write_text(with_tables(TRUST.read_text()))
         return 0
     missing = ["%s: %s" % (paper.relative_to(ROOT), name) for paper in PAPERS for name in missing_names(paper)]
-    missing += ["docs/TRACE.md: " + name for name in (*missing_edits(), *missing_definitions())]
+    missing += ["docs/TRACE.md: " + name for name in (*missing_edits(), *missing_readings(), *missing_definitions())]
     bare = list(bare_functions())
     print("".join("%s is not there\n" % name for name in missing) + "".join("%s\n" % name for name in bare), end="")
     stale = with_tables(TRUST.read_text()) != TRUST.read_text()
