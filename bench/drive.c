@@ -7,8 +7,11 @@
        K                          a copy of the image is kept, as the current one
        M, three lengths           restore_list from the current image to the image: so many bytes of each, and room for so many
        D                          a digest of all the list's bytes
+       N                          valve_start again
+       P                          the stack below is painted
+       G                          how many bytes of the stack have lost their paint, down to the deepest
 
-   An answer is 16 bytes: the reply's length, seven bytes of nothing, the reply; that of W, I, L, M and D is the number returned. The
+   An answer is 16 bytes: the reply's length, seven bytes of nothing, the reply; that of W, I, L, M, D and G is the number returned. The
    whole image and the whole list come behind the answers. */
 #include HEADER
 #include "bare.h"
@@ -47,6 +50,12 @@ static struct answer answers[EVENTS];
 static uint64_t unit[512]; /* room for either side's */
 static uint8_t image[IMAGE], current[IMAGE], list[IMAGE];
 
+/* No paint lies where a call puts its return address: what is gone from there down is the called function's own. */
+void paint(void);
+int32_t gone(void);
+__asm__("paint: lea -8192(%rsp), %rdi\nmov $8192, %ecx\nmov $0xA5, %al\nrep stosb\nret\n"
+        "gone: lea -8192(%rsp), %rdi\nmov $8193, %ecx\nmov $0xA5, %al\nrepe scasb\nmov %ecx, %eax\nret\n");
+
 static int32_t digest(void)
 {
     uint32_t sum = 0;
@@ -65,6 +74,8 @@ static int32_t call_for(const struct event *event)
         return CALL(SIDE, restore_list)(current, event->current, image, event->wanted, list, event->room);
     if (event->kind == 'D')
         return digest();
+    if (event->kind == 'G')
+        return gone();
     return CALL(SIDE, load)((void *)unit, image, event->length);
 }
 
@@ -78,6 +89,10 @@ static void take(const struct event *event, struct answer *answer)
         image[event->place] = event->byte;
     } else if (event->kind == 'K') {
         memcpy(current, image, sizeof image);
+    } else if (event->kind == 'N') {
+        CALL(SIDE, start)((void *)unit);
+    } else if (event->kind == 'P') {
+        paint();
     } else {
         answer->number = call_for(event);
         answer->length = sizeof answer->number;

@@ -2,8 +2,9 @@
 
 A side is the program of drive.c over `plain` (plain.c), `valve` (the crates firmware and gateway) or `empty` (calls
 that do nothing). An event is a frame of 8 bytes, a tuple of four samples, one of Save, Check, Load and Spoil, which are
-about the image of a run, or one of Keep, Make and Digest, which are about its list. Only the kit's compiler is used. On
-an x86-64 a run is counted by single steps, elsewhere by the log of the kit's emulator; both give every instruction.
+about the image of a run, one of Keep, Make and Digest, which are about its list, or one of Start, Paint and Gone. Only the
+kit's compiler is used. On an x86-64 a run is counted by single steps, elsewhere by the log of the kit's emulator; both give
+every instruction.
 """
 
 import ctypes
@@ -30,6 +31,7 @@ def _tools():
 TOOLS = _tools()
 EMULATOR = [] if platform.machine() == "x86_64" else [str(TOOLS / "qemu-x86_64")]
 C = "--target=x86_64-linux-gnu -std=c11 -O2 -ffp-contract=off -Wall -Wextra -Werror -nostdinc -fno-stack-protector".split()
+C += ["-ffunction-sections", "-fdata-sections"]  # as the crates' objects are, so that a linker can leave out what nobody calls
 
 
 def compiled(source, out, *words):
@@ -65,16 +67,44 @@ def library(crate):
     return archive
 
 
+def parts_of(side):
+    """What a program links to call the side."""
+    if side == "plain":
+        return [compiled(HERE / "plain.c", "plain.o")]
+    return [library("firmware"), library("gateway")] if side == "valve" else []
+
+
 def build(side):
     """The side's program."""
     words = ["-DSIDE=" + side, '-DHEADER="%s.h"' % side]
-    parts = []
-    if side == "plain":
-        parts = [compiled(HERE / "plain.c", "plain.o")]
     if side == "valve":
         words += ["-include", "restore_list.h", "-Dvalve_restore_list=restore_list"]
-        parts = [library("firmware"), library("gateway")]
-    return linked(side, [compiled(HERE / "drive.c", side + ".drive.o", *words), *parts])
+    return linked(side, [compiled(HERE / "drive.c", side + ".drive.o", *words), *parts_of(side)])
+
+
+def _sections(program):
+    """Name, flags and size of each section of an ELF file."""
+    data = pathlib.Path(program).read_bytes()
+    start, size, count, names = struct.unpack_from("<Q10xHHH", data, 0x28)
+    heads = [struct.unpack_from("<IIQQQQ", data, start + size * i) for i in range(count)]
+    strings = data[heads[names][4]:]
+    for name, _, flags, _, _, length in heads:
+        yield strings[name:strings.index(b"\0", name)].decode(), flags, length
+
+
+def flash(calls, parts):
+    """Bytes of code and of constants that a linker takes from the parts for these calls; the C library's are not among them."""
+    roots = [word for call in calls for word in ("-u", call)]
+    program = linked("flash", ["-e", calls[0], *roots, "--gc-sections", "--unresolved-symbols=ignore-all", *parts])
+    code = constants = 0
+    for name, flags, length in _sections(program):
+        if flags & 4:
+            code += length
+        elif flags & 2 and name.startswith(".rodata"):
+            constants += length
+        elif flags & 1 and length:
+            raise RuntimeError("%s is %d bytes of memory that is written to" % (name, length))
+    return code, constants
 
 
 IMAGE_BYTES = 5207
@@ -115,8 +145,21 @@ class Digest(NamedTuple):
     """Of the list's bytes, those behind it too."""
 
 
+class Start(NamedTuple):
+    """The unit is started again."""
+
+
+class Paint(NamedTuple):
+    """The stack below is painted, PAINTED bytes."""
+
+
+class Gone(NamedTuple):
+    """How many bytes of the paint are gone."""
+
+
+PAINTED = 8192
 LETTERS = {Save: b"W", Check: b"I", Load: b"L"}
-LIST_LETTERS = {Keep: b"K", Make: b"M", Digest: b"D"}
+OTHER_LETTERS = {Keep: b"K", Make: b"M", Digest: b"D", Start: b"N", Paint: b"P", Gone: b"G"}
 
 
 def _event(event):
@@ -126,8 +169,8 @@ def _event(event):
         return struct.pack("<8sIB3x", b"B", *event)
     if type(event) in LETTERS:
         return struct.pack("<8sI4x", LETTERS[type(event)], event.length)
-    if type(event) in LIST_LETTERS:
-        return struct.pack("<8s8s", LIST_LETTERS[type(event)], struct.pack("<%dH" % len(event), *event))
+    if type(event) in OTHER_LETTERS:
+        return struct.pack("<8s8s", OTHER_LETTERS[type(event)], struct.pack("<%dH" % len(event), *event))
     return struct.pack("<8s4h", b"T", *event)
 
 
