@@ -4,8 +4,8 @@ use mathlib.Core.Path.{_≡_, refl, sym, ap, _∙_}
 use native.Mathlib.Omega.{arith}
 use borrow.Author.Needs.{needs}
 use Rattle.dialogue.proofs.Steps.{ends, joins, passes}
-use Rattle.dialogue.proofs.take_byte.Statement.{statement}
-use Rattle.dialogue.proofs.take_byte.Tie as tie
+use Rattle.dialogue.proofs.byte.take_byte.Statement.{statement}
+use Rattle.dialogue.proofs.byte.take_byte.Tie as tie
 
 finish-requires : tie.Need-finish-requires
 finish-requires c κs = search needs

@@ -6,8 +6,8 @@ use native.Mathlib.Omega.{arith}
 use lib.ListN.{length, take, length-set}
 use lib.Seq.{sets, take-all}
 use Rattle.answers.proofs.Stores.{sets-next}
-use Rattle.dialogue.proofs.put.Statement.{statement}
-use Rattle.dialogue.proofs.put.Tie as tie
+use Rattle.dialogue.proofs.byte.put.Statement.{statement}
+use Rattle.dialogue.proofs.byte.put.Tie as tie
 
 abbrev Inv-loop : tie.InvT-loop
 Inv-loop room₀ at text k₀ room k = (k ≤ length text) × (room ≡ sets room₀ at (take k text)) × (length room ≡ length room₀)

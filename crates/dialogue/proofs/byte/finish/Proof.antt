@@ -7,8 +7,8 @@ use borrow.Author.Needs.{needs}
 use lib.ListN.{length, take}
 use lib.Seq.{sets, length-take-le}
 use Rattle.dialogue.proofs.Told.{begins, inside, ending-most}
-use Rattle.dialogue.proofs.finish.Statement.{statement}
-use Rattle.dialogue.proofs.finish.Tie as tie
+use Rattle.dialogue.proofs.byte.finish.Statement.{statement}
+use Rattle.dialogue.proofs.byte.finish.Tie as tie
 
 respond-requires : tie.Need-respond-requires
 respond-requires c κs = search needs

@@ -8,8 +8,8 @@ use lib.Seq.{length-take-le, take-all}
 use Rattle.printer.specs.Answering.{unheard}
 use Rattle.printer.proofs.Replies.{told}
 use Rattle.dialogue.proofs.Told.{too-long, short-enough}
-use Rattle.dialogue.proofs.respond.Statement.{statement}
-use Rattle.dialogue.proofs.respond.Tie as tie
+use Rattle.dialogue.proofs.byte.respond.Statement.{statement}
+use Rattle.dialogue.proofs.byte.respond.Tie as tie
 
 show-unknown-requires : tie.Need-show-unknown-requires
 show-unknown-requires c κs = search needs
