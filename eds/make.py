@@ -158,7 +158,7 @@ Dummy0007=0
 """
 
 COMMENTS = """
-This sheet lists every object that the object dictionary of document 01 answers to, and no other.
+This sheet lists every object that this part of the unit answers to, and no other.
 Left out, since they belong to parts left to others: 1000h (device type) and 1018h (identity), which a whole device must have,
 NMT, guarding and heartbeat (100Ch, 100Dh, 1016h, 1017h), LSS, all PDO (1400h to 1BFFh), so that PDOMapping is 0 throughout,
 filters (2120h to 2127h, 61A0h, 61A1h), dither (2320h, 2321h) and PID (2450h to 2460h, 6458h, 6459h, 7450h to 7456h).
