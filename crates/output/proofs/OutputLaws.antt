@@ -17,6 +17,7 @@ use Rattle.numbers.proofs.Orders.{lt-is-below}
 use Rattle.whole_line.proofs.LineLaws.{from-first, to-second}
 use Rattle.numbers.proofs.Choices.{chosen}
 use Rattle.output.specs.Output.{rule, ruleOf, faultOf}
+use Rattle.output.specs.Commanded.{Within, Some-rule, Rules-1-to-6, Rule-7}
 use Rattle.turning.specs.Turning.{isOn, isOff, turnedOn, turnedOff}
 use Rattle.output.specs.Output.{span, step, rise, fall, moved, target, ramped, byRule, command}
 use Rattle.signals.specs.Signal.{whole}
@@ -30,12 +31,7 @@ use Rattle.numbers.proofs.OrderLaws.{below-le, ≤ℤ-trans, up, down}
 pub step-small : (width ramp : ℕ) → width < 65536 → 0 < ramp → (width + (ramp - 1)) / ramp < 65536
 step-small width ramp h k = div-lt-iff-lt-mul k .1 (omega arith)
 
--- ---- a number between two others
-pub record Within (low high z : ℤ) : Type 0 where
-  pub from : low ≤ℤ z
-  pub to : z ≤ℤ high
-
--- a move toward a number between two limits, from another between them, ends between them
+-- ---- a move toward a number between two limits, from another between them, ends between them
 module _ {low high a b : ℤ} (wa : Within low high a) (wb : Within low high b) where
   risen : (n : ℕ) → Within low high (rise a b n)
   unfolding rise
@@ -57,51 +53,40 @@ module _ {low high a b : ℤ} (wa : Within low high a) (wb : Within low high b) 
       (λ e. chosen (Within low high) (eqb downward 0) b (fall a b (step width downward)) (λ g. wb) (λ g. fallen (step width downward)))
 
 -- ---- "So under rule 7 the command stays between the two configured limits, and rules 1 to 6 name their value."
--- the value that each of rules 1 to 6 names
-pub record Names (s : Settings) (last : ℤ) (n : ℕ) (given : ℤ) : Type 0 where
-  pub off : n ≡ 1 → given ≡ pos 0
-  pub enable-error : n ≡ 2 → given ≡ faultOf s last
-  pub overridden : n ≡ 3 → given ≡ s .«override_fv»
-  pub override-error : n ≡ 4 → given ≡ faultOf s last
-  pub control-error : n ≡ 5 → given ≡ faultOf s last
-  pub no-control : n ≡ 6 → given ≡ pos 0
-
 module _ (s : Settings) (control enable over : Signal) (last : ℤ) where
   by : {n : ℕ} → ruleOf s control enable over ≡ n → command s control enable over last ≡ byRule n s (whole control) last
   unfolding command
   by e = ap (λ (n : ℕ). byRule n s (whole control) last) e
 
-  pub rules-1-to-6 : Names s last (ruleOf s control enable over) (command s control enable over last)
-  unfolding byRule first
-  rules-1-to-6 =
-      record {
-        off = λ e. by e;
-        enable-error = λ e. by e;
-        overridden = λ e. by e;
-        override-error = λ e. by e;
-        control-error = λ e. by e;
-        no-control = λ e. by e;
-      }
+pub rules-1-to-6 : Rules-1-to-6
+unfolding Rules-1-to-6 byRule first
+rules-1-to-6 s control enable over last = record {
+  off = λ e. by s control enable over last e;
+  enable-error = λ e. by s control enable over last e;
+  overridden = λ e. by s control enable over last e;
+  override-error = λ e. by s control enable over last e;
+  control-error = λ e. by s control enable over last e;
+  no-control = λ e. by s control enable over last e;
+}
 
-  -- one of the seven rules applies
-  pub some-rule : (1 ≤ ruleOf s control enable over) × (ruleOf s control enable over ≤ 7)
-  unfolding ruleOf rule
-  some-rule =
-      let one-of : ℕ → Type 0 = λ n. (1 ≤ n) × (n ≤ 7) in
-      chosen one-of _ 1 _ (λ e. omega arith) (λ e. chosen one-of _ 2 _ (λ e. omega arith) (λ e. chosen one-of _ 3 _ (λ e. omega arith)
-      (λ e. chosen one-of _ 4 _ (λ e. omega arith) (λ e. chosen one-of _ 5 _ (λ e. omega arith) (λ e. chosen one-of _ 6 _ (λ e. omega arith) (λ e. omega arith))))))
+pub some-rule : Some-rule
+unfolding Some-rule ruleOf rule
+some-rule s control enable over =
+    let one-of : ℕ → Type 0 = λ n. (1 ≤ n) × (n ≤ 7) in
+    chosen one-of _ 1 _ (λ e. omega arith) (λ e. chosen one-of _ 2 _ (λ e. omega arith) (λ e. chosen one-of _ 3 _ (λ e. omega arith)
+    (λ e. chosen one-of _ 4 _ (λ e. omega arith) (λ e. chosen one-of _ 5 _ (λ e. omega arith) (λ e. chosen one-of _ 6 _ (λ e. omega arith) (λ e. omega arith))))))
 
-  pub rule-7 : s .fv1 <ℤ s .fv2 → ruleOf s control enable over ≡ 7 → Within (s .fv1) (s .fv2) (command s control enable over last)
-  unfolding byRule first ramped target
-  rule-7 order e =
-      let low = s .fv1 in
-      let high = s .fv2 in
-      let le = below-le low high (lt-is-below order) in
-      let v = limitWhole (whole control) (s .pv1) (s .pv2) in
-      let from : Within low high (limitWhole last low high) = record { from = limit-from last low high le; to = limit-to last low high le } in
-      let aim : Within low high (target s (whole control)) =
-      record { from = from-first (s .pv1) low (s .pv2) high le v; to = to-second (s .pv1) low (s .pv2) high le v } in
-      rw (by e) (moves from aim (span low high) (s .«ramp_up») (s .«ramp_down»))
+pub rule-7 : Rule-7
+unfolding Rule-7 byRule first ramped target
+rule-7 s control enable over last order e =
+    let low = s .fv1 in
+    let high = s .fv2 in
+    let le = below-le low high (lt-is-below order) in
+    let v = limitWhole (whole control) (s .pv1) (s .pv2) in
+    let from : Within low high (limitWhole last low high) = record { from = limit-from last low high le; to = limit-to last low high le } in
+    let aim : Within low high (target s (whole control)) =
+    record { from = from-first (s .pv1) low (s .pv2) high le v; to = to-second (s .pv1) low (s .pv2) high le v } in
+    rw (by s control enable over last e) (moves from aim (span low high) (s .«ramp_up») (s .«ramp_down»))
 
 -- ---- "Output at rest, target 1500: 2 after one tick."
 unfoldable pub bench : Settings

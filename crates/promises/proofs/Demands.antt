@@ -1,5 +1,6 @@
 -- The three demands are met.
 -- Assumes nothing.
+use Rattle.output.proofs.OutputLaws as OutputLaws
 use Rattle.promises.specs.Demands.{Demand-1, Demand-2, Demand-3}
 use Rattle.promises.proofs.Bench as Bench
 use Rattle.promises.proofs.Images as Images
@@ -27,6 +28,9 @@ demand-2 =
       on-the-bench = Bench.on-the-bench;
       only-the-fold = Running.only-the-fold;
       always-sound = Running.always-sound;
+      some-rule = OutputLaws.some-rule;
+      rules-1-to-6 = OutputLaws.rules-1-to-6;
+      rule-7 = OutputLaws.rule-7;
       saved-reads-back = Images.saved-reads-back;
       same-bytes-again = Images.same-bytes-again;
       one-configuration-each = Images.one-configuration-each;

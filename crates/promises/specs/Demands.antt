@@ -1,5 +1,6 @@
 -- The three demands, each one definition: its words, and beside them the statements that answer them.
 -- Assumes nothing.
+use Rattle.output.specs.Commanded.{Some-rule, Rules-1-to-6, Rule-7}
 use Rattle.promises.specs.Bench.{On-the-bench}
 use Rattle.promises.specs.Images.{Saved-reads-back, Same-bytes-again, Accepts-exactly, One-configuration-each, Refusals-write-nothing}
 use Rattle.promises.specs.Restoring.{Always-fits, Each-accepted, Arrives, Cut-anywhere, Count-is-difference, Shortest, Turned-away-exactly, Refused-lists-write-nothing, One-list}
@@ -34,6 +35,10 @@ pub record Demand-2 : Type 0 where
   pub only-the-fold : Only-the-fold
   -- and in that, from the start, ranges and chains hold and 1001h tells of the flags
   pub always-sound : Always-sound
+  -- "So under rule 7 the command stays between the two configured limits, and rules 1 to 6 name their value": one of the seven applies
+  pub some-rule : Some-rule
+  pub rules-1-to-6 : Rules-1-to-6
+  pub rule-7 : Rule-7
   -- "An image written from a controller reads back as that configuration"
   pub saved-reads-back : Saved-reads-back
   -- "one that is read and written again has the same bytes"
