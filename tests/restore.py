@@ -348,13 +348,17 @@ def check_names(check):
 
 
 def check_unwritable(check):
-    """Names that no list can have: an image, or what is not a file."""
+    """Names that no list can have: an image, a link, or what is not a file."""
     check.write("current", DEFAULT)
     check.write("wanted", MIXED)
     (check.folder / "linked").symlink_to("wanted")
     os.link(check.folder / "current", check.folder / "same")
     for name in ("current", "./wanted", "linked", "same", str(check.folder / "current")):
         check.expect(["restore", "current", "wanted", name], 1, "", name + ": is one of the images\n")
+    (check.folder / "to list").symlink_to("list")
+    (check.folder / "to nothing").symlink_to("nobody")
+    for name in ("to list", "to nothing", "/dev/stdout"):
+        check.expect(["restore", "current", "wanted", name], 1, "", name + ": is a link\n")
     os.mkfifo(check.folder / "pipe")
     for name in (".", "folder", "pipe", "/dev/null"):
         check.expect(["restore", "current", "wanted", name], 1, "", name + ": is not a file\n")

@@ -7,25 +7,26 @@ use super::buffer::put_byte;
 use super::buffer::put_hex;
 use little::four_at;
 
-// How many bytes are there, and whether more may come; what cannot be read has been told.
+// How many bytes there are, whether more may come, and whether the file can be read; where it cannot, that has been told.
 pub struct Fetched {
     pub length: usize,
+    pub more: bool,
     pub good: bool,
 }
 
-struct Step {
-    length: usize,
-    more: bool,
-    good: bool,
-}
+const NOTHING: Fetched = Fetched {
+    length: 0,
+    more: false,
+    good: false,
+};
 
 // Reads once.
-fn read_on(fd: i32, image: &mut Buffer, length: usize) -> Step {
+fn read_on(fd: i32, image: &mut Buffer, length: usize) -> Fetched {
     let mut piece = io::buffer();
     let got = libc::read(fd, &mut piece);
     let n = io::count(got, &piece);
     let next = put(image, length, &piece[..n]);
-    Step {
+    Fetched {
         length: next,
         more: got > 0,
         good: got >= 0,
@@ -34,30 +35,27 @@ fn read_on(fd: i32, image: &mut Buffer, length: usize) -> Step {
 
 // To the file's end, or until there are more bytes than an image has; each read brings one or more.
 fn read_all(fd: i32, image: &mut Buffer) -> Fetched {
-    let mut length: usize = 0;
+    let mut here = Fetched {
+        length: 0,
+        more: true,
+        good: true,
+    };
     let mut turns: usize = 0;
     while turns < ROOM {
-        let step = read_on(fd, image, length);
-        length = step.length;
-        if !step.more {
-            return Fetched {
-                length,
-                good: step.good,
-            };
+        here = read_on(fd, image, here.length);
+        if !here.more {
+            return here;
         }
         turns += 1;
     }
-    Fetched { length, good: true }
+    here
 }
 
 fn fetch_from(path: &[u8], image: &mut Buffer) -> Fetched {
     let fd = os::open_read(path);
     if fd < 0 {
         os::fail(path);
-        return Fetched {
-            length: 0,
-            good: false,
-        };
+        return NOTHING;
     }
     let fetched = read_all(fd, image);
     if !fetched.good {
@@ -73,10 +71,7 @@ pub fn fetch(argument: usize, image: &mut Buffer) -> Fetched {
     let n = os::arg(argument, &mut path);
     if os::errno() != 0 {
         os::fail(b"file name");
-        return Fetched {
-            length: 0,
-            good: false,
-        };
+        return NOTHING;
     }
     fetch_from(&path[..n], image)
 }

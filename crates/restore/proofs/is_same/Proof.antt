@@ -1,3 +1,5 @@
+-- Each turn compares one byte; both have as many.
+-- Assumes nothing.
 use borrow.Author.Needs.{needs}
 use Prim.Native.Nat.{_-_}
 use lib.ListN.{length}

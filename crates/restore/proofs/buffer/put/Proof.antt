@@ -1,3 +1,5 @@
+-- Each turn takes one byte of the piece.
+-- Assumes nothing.
 use borrow.Author.Needs.{needs}
 use Prim.Native.Nat.{_-_}
 use lib.ListN.{length}

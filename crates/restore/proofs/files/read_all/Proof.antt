@@ -1,3 +1,5 @@
+-- The turns are counted.
+-- Assumes nothing.
 use borrow.Author.Needs.{needs}
 use Prim.Native.Nat.{_-_}
 use Rattle.restore.proofs.files.read_all.Statement.{statement}

@@ -1,3 +1,5 @@
+-- The carry is at most 1, so that twice a digit with it is a number of two digits.
+-- Assumes nothing.
 use borrow.Author.Needs.{needs}
 use Prim.Native.Nat.{_≤_}
 use Rattle.restore.proofs.real.double.Statement.{statement}

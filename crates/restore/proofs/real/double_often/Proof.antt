@@ -1,3 +1,5 @@
+-- Each turn takes one from the times that are left.
+-- Assumes nothing.
 use borrow.Author.Needs.{needs}
 use Rattle.restore.proofs.real.double_often.Statement.{statement}
 use Rattle.restore.proofs.real.double_often.Tie as tie

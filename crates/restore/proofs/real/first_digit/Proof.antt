@@ -1,3 +1,5 @@
+-- The place rises to 100 and no further.
+-- Assumes nothing.
 use borrow.Author.Needs.{needs}
 use Prim.Native.Nat.{_≤_, _-_}
 use Rattle.restore.proofs.real.first_digit.Statement.{statement}

@@ -1,3 +1,5 @@
+-- The carry is at most 1, so that it makes a digit a number of two digits.
+-- Assumes nothing.
 use borrow.Author.Needs.{needs}
 use Prim.Native.Nat.{_≤_, _-_}
 use Rattle.restore.proofs.real.halve.Statement.{statement}

@@ -1,3 +1,5 @@
+-- The place stays among the digits.
+-- Assumes nothing.
 use borrow.Author.Needs.{needs}
 use Prim.Native.Nat.{_≤_, _-_}
 use Rattle.restore.proofs.real.is_below.Statement.{statement}

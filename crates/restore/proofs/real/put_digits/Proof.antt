@@ -1,3 +1,5 @@
+-- The place rises to where the digits end.
+-- Assumes nothing.
 use borrow.Author.Needs.{needs}
 use Prim.Native.Nat.{_-_}
 use Rattle.restore.proofs.real.put_digits.Statement.{statement}

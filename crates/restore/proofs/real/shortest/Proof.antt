@@ -1,3 +1,5 @@
+-- At most nine digits from the first one are kept, which are among all.
+-- Assumes nothing.
 use borrow.Author.Needs.{needs}
 use Prim.Native.Nat.{_≤_, _+_, _-_}
 use Rattle.restore.proofs.real.shortest.Statement.{statement}

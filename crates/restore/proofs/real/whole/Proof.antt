@@ -1,3 +1,5 @@
+-- The place falls from the point.
+-- Assumes nothing.
 use borrow.Author.Needs.{needs}
 use Prim.Native.Nat.{_≤_}
 use Rattle.restore.proofs.real.whole.Statement.{statement}

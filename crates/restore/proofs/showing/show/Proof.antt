@@ -1,3 +1,5 @@
+-- Each turn takes one from the records that are left.
+-- Assumes nothing.
 use borrow.Author.Needs.{needs}
 use Rattle.restore.proofs.showing.show.Statement.{statement}
 use Rattle.restore.proofs.showing.show.Tie as tie
