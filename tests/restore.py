@@ -333,7 +333,8 @@ def check_images(check):
     check.expect(["restore", 5000 * "x", "wanted", "list"], 1, "", "file name: File name too long\n")
     check.write("empty", b"")
     check.expect(["restore", "current", "empty", "list"], 1, "wanted image refused, 1: %s\n" % REFUSALS[1])
-    # A pipe is read to its end, however it comes.
+    check.expect(["restore", "/dev/zero", "wanted", "list"], 1, "current image refused, 2: %s\n" % REFUSALS[2])
+    # A pipe is read piece by piece.
     words = ["restore", "--show", "/dev/stdin", "wanted"]
     check.expect(words, 0, input=DEFAULT)
     check.expect(words, 1, "current image refused, 7: %s\n" % REFUSALS[7], input=12 * DEFAULT)

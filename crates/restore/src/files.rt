@@ -7,7 +7,7 @@ use super::buffer::put_byte;
 use super::buffer::put_hex;
 use little::four_at;
 
-// How many bytes there are, whether more may come, and whether the file can be read; where it cannot, that has been told.
+// How many bytes there are, whether more are wanted, and whether the file can be read; where it cannot, that has been told.
 pub struct Fetched {
     pub length: usize,
     pub more: bool,
@@ -28,7 +28,7 @@ fn read_on(fd: i32, image: &mut Buffer, length: usize) -> Fetched {
     let next = put(image, length, &piece[..n]);
     Fetched {
         length: next,
-        more: got > 0,
+        more: got > 0 && next < ROOM,
         good: got >= 0,
     }
 }
