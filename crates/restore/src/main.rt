@@ -6,6 +6,8 @@ mod real;
 mod showing;
 mod words;
 
+ghost use mathlib.Core.Path.{_≡_};
+ghost use Rattle.records.specs.Walk.{number};
 use buffer::Buffer;
 use buffer::ROOM;
 use buffer::front;
@@ -21,24 +23,43 @@ use little::four_at;
 use records::types::Refusal;
 use showing::show;
 
-fn put_refusal(line: &mut Buffer, at: usize, why: Refusal) -> usize {
+// The paper's number.
+fn number_of(why: Refusal) -> u8
+    ensures { λ r. ⌜ r ≡ number why ⌝ }
+{
     match why {
-        Refusal::EndedEarly => put(line, at, b"1: it ends early\n"),
-        Refusal::WrongCount => put(line, at, b"2: it does not count 611 records\n"),
-        Refusal::NotNext => put(line, at, b"3: a record is not that of the next entry\n"),
-        Refusal::WrongSize => put(line, at, b"4: a record has the wrong size\n"),
-        Refusal::OutOfRange => put(line, at, b"5: a value is out of its range\n"),
-        Refusal::OutOfOrder => put(line, at, b"6: two values are not in order\n"),
-        Refusal::LeftOver => put(line, at, b"7: there are bytes behind the last record\n"),
-        Refusal::NoRoom => put(line, at, b"8: there is no room\n"),
+        Refusal::EndedEarly => 1,
+        Refusal::WrongCount => 2,
+        Refusal::NotNext => 3,
+        Refusal::WrongSize => 4,
+        Refusal::OutOfRange => 5,
+        Refusal::OutOfOrder => 6,
+        Refusal::LeftOver => 7,
+        Refusal::NoRoom => 8,
     }
 }
 
-fn refuse(image: &[u8], why: Refusal) {
+fn put_reason(line: &mut Buffer, at: usize, why: Refusal) -> usize {
+    match why {
+        Refusal::EndedEarly => put(line, at, b"it ends early"),
+        Refusal::WrongCount => put(line, at, b"it does not count 611 records"),
+        Refusal::NotNext => put(line, at, b"a record is not that of the next entry"),
+        Refusal::WrongSize => put(line, at, b"a record has the wrong size"),
+        Refusal::OutOfRange => put(line, at, b"a value is out of its range"),
+        Refusal::OutOfOrder => put(line, at, b"two values are not in order"),
+        Refusal::LeftOver => put(line, at, b"there are bytes behind the last record"),
+        Refusal::NoRoom => put(line, at, b"there is no room"),
+    }
+}
+
+fn refuse(what: &[u8], why: Refusal) {
     let mut line = [0u8; ROOM];
-    let mut at = put(&mut line, 0, image);
-    at = put(&mut line, at, b" image refused, ");
-    at = put_refusal(&mut line, at, why);
+    let mut at = put(&mut line, 0, what);
+    at = put(&mut line, at, b" refused, ");
+    at = put_decimal(&mut line, at, number_of(why) as u64);
+    at = put(&mut line, at, b": ");
+    at = put_reason(&mut line, at, why);
+    at = put(&mut line, at, b"\n");
     io::write_all(STDOUT_FILENO, front(&line, at));
 }
 
@@ -67,11 +88,9 @@ fn restore(current: &[u8], wanted: &[u8], shown: bool) {
                 io::write_all(STDOUT_FILENO, b"done\n");
             }
         }
-        Made::Current(why) => refuse(b"current", why),
-        Made::Wanted(why) => refuse(b"wanted", why),
-        Made::NoRoom => {
-            io::write_all(STDOUT_FILENO, b"list refused, 8: there is no room\n");
-        }
+        Made::Current(why) => refuse(b"current image", why),
+        Made::Wanted(why) => refuse(b"wanted image", why),
+        Made::NoRoom => refuse(b"list", Refusal::NoRoom),
     }
 }
 
