@@ -9,6 +9,7 @@ cannot be written: each time the words, the status and every file in the folder.
 """
 
 import argparse
+import contextlib
 import fractions
 import functools
 import itertools
@@ -22,6 +23,7 @@ import struct
 import subprocess
 import sys
 import tempfile
+import time
 
 import lists_cases
 import lists_model
@@ -416,6 +418,16 @@ def check_full_disk(check):
     return True
 
 
+def opened_pipe(path, program):
+    """The pipe's writing end, as soon as the program has opened it for reading."""
+    for _ in range(100 * SECONDS):
+        with contextlib.suppress(OSError):
+            return os.open(path, os.O_WRONLY | os.O_NONBLOCK)
+        assert program.poll() is None, "the command ended before it read"
+        time.sleep(0.01)
+    raise AssertionError("the command does not read")
+
+
 def check_signals(check):
     """The command is ended while the images are read: it does not say that it worked, and the list is written whole."""
     os.mkfifo(check.folder / "fed")
@@ -424,9 +436,10 @@ def check_signals(check):
         how = {"cwd": check.folder, "start_new_session": True, "stderr": subprocess.PIPE}
         how["preexec_fn"] = functools.partial(signal.signal, number, signal.SIG_DFL)  # it is ignored where this runs in the background
         ended = subprocess.Popen([RUN, "restore", "fed", "wanted", "list"], **how)
-        with open(check.folder / "fed", "wb") as fed:  # the program has opened it too, and waits
-            os.killpg(ended.pid, number)
-            fed.write(DEFAULT)
+        pipe = opened_pipe(check.folder / "fed", ended)
+        os.killpg(ended.pid, number)
+        os.write(pipe, DEFAULT)
+        os.close(pipe)
         complained = ended.stderr.read()  # to its end, which is the program's
         assert (ended.wait(SECONDS), complained) == (-number, b""), (number, ended.returncode, complained)
         assert (check.folder / "list").read_bytes() == bytes.fromhex(LISTS[4][3]), "signal %d: the list is not whole" % number

@@ -4,13 +4,14 @@ use super::buffer::put;
 use super::buffer::put_decimal;
 use super::buffer::put_one;
 
-// A block with its number, before what it is of the block.
+// A block with its number, before the entry's own word.
 fn put_block(line: &mut Buffer, at: usize, block: &[u8], number: u16) -> usize {
     let next = put(line, at, block);
     let end = put_decimal(line, next, number as u64);
     put(line, end, b", ")
 }
 
+// A word with its number.
 fn put_counted(line: &mut Buffer, at: usize, words: &[u8], number: u16) -> usize {
     let next = put(line, at, words);
     put_decimal(line, next, number as u64)
@@ -122,23 +123,11 @@ fn put_output(line: &mut Buffer, at: usize, index: u16) -> usize {
     }
 }
 
-pub fn put_entry(line: &mut Buffer, at: usize, index: u16, sub_index: u8) -> usize {
-    let sub = sub_index as u16;
+// 4000h to 4950h: the logic blocks and the math blocks.
+fn put_made(line: &mut Buffer, at: usize, index: u16, sub: u16) -> usize {
     let high = index / 0x100;
     let low = index % 0x100;
     match high {
-        0x25 => {
-            let next = put_block(line, at, b"EC ", sub);
-            put_ec(line, next, index)
-        }
-        0x21 | 0x61 | 0x71 => {
-            let next = put_block(line, at, b"input ", sub);
-            put_input(line, next, index)
-        }
-        0x30 => {
-            let next = put_block(line, at, b"table ", low / 0x10);
-            put_table(line, next, low % 0x10, sub)
-        }
         0x40 => {
             let next = put_block(line, at, b"logic ", sub);
             put(line, next, b"enable")
@@ -147,19 +136,37 @@ pub fn put_entry(line: &mut Buffer, at: usize, index: u16, sub_index: u8) -> usi
             let next = put_block(line, at, b"logic ", high % 0x10);
             put_logic(line, next, low, sub)
         }
-        0x45 => {
-            let next = put_block(line, at, b"math ", sub);
-            put_math(line, next, index)
-        }
-        0x50 => put_counted(line, at, b"constant ", sub),
-        0x23 | 0x63 | 0x73 => {
-            let next = put_block(line, at, b"output ", sub);
-            put_output(line, next, index)
-        }
         0x46..=0x49 => {
             let next = put_block(line, at, b"math ", high - 0x45);
             put_operand(line, next, low, sub)
         }
-        _ => at,
+        _ => {
+            let next = put_block(line, at, b"math ", sub);
+            put_math(line, next, index)
+        }
+    }
+}
+
+pub fn put_entry(line: &mut Buffer, at: usize, index: u16, sub_index: u8) -> usize {
+    let sub = sub_index as u16;
+    match index / 0x100 {
+        0x21 | 0x61 | 0x71 => {
+            let next = put_block(line, at, b"input ", sub);
+            put_input(line, next, index)
+        }
+        0x23 | 0x63 | 0x73 => {
+            let next = put_block(line, at, b"output ", sub);
+            put_output(line, next, index)
+        }
+        0x25 => {
+            let next = put_block(line, at, b"EC ", sub);
+            put_ec(line, next, index)
+        }
+        0x30 => {
+            let next = put_block(line, at, b"table ", index / 0x10 % 0x10);
+            put_table(line, next, index % 0x10, sub)
+        }
+        0x50 => put_counted(line, at, b"constant ", sub),
+        _ => put_made(line, at, index, sub),
     }
 }
