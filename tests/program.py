@@ -9,8 +9,9 @@ SECONDS = 900  # far more than any session here needs; a program that hangs is a
 def run(path, data):
     """The bytes that the program prints for these bytes, and its exit status.
 
-    A path that ends in .py is run by this Python, so that a model can stand in for the product.
+    A path that ends in .py is run by this Python, so that a model can stand in for the product;
+    any other is a starter, which is asked to serve a session.
     """
-    command = [sys.executable, path] if path.endswith(".py") else [path]
+    command = [sys.executable, path] if path.endswith(".py") else [path, "session"]
     done = subprocess.run(command, input=data, stdout=subprocess.PIPE, timeout=SECONDS)
     return done.stdout, done.returncode

@@ -23,7 +23,7 @@ from images import sides
 from lists import MOVED_POINTS, with_records
 
 SECONDS = 60  # far more than a run needs; what hangs is ended
-UNIT = str(sides.ROOT / "run")
+UNIT = [str(sides.ROOT / "run"), "session"]
 
 # --------------------------------------------------------------------------- Typed by hand
 
@@ -136,7 +136,7 @@ class Unit:
     """A running session program."""
 
     def __init__(self, settings=""):
-        self.process = subprocess.Popen([UNIT], stdin=subprocess.PIPE, stdout=subprocess.PIPE)
+        self.process = subprocess.Popen(UNIT, stdin=subprocess.PIPE, stdout=subprocess.PIPE)
         for frame in settings.split():
             reply = self.answer("S " + frame)
             assert reply == "60" + frame[2:8] + "00000000", (frame, reply)

@@ -1,0 +1,48 @@
+-- Each turn takes one byte of the piece.
+-- Assumes nothing.
+use borrow.Author.Needs.{needs}
+use Prim.Native.Nat.{_-_}
+use lib.ListN.{length}
+use Rattle.restore.proofs.buffer.put.Statement.{statement}
+use Rattle.restore.proofs.buffer.put.Tie as tie
+
+abbrev Inv-loop : tie.InvT-loop
+Inv-loop buffer₀ at piece end₀ k₀ buffer end k = Unit {0}
+
+abbrev μ-loop : tie.MeasureT-loop
+μ-loop buffer₀ at piece end₀ k₀ buffer end k = length piece - k
+
+loop-holds : tie.Need-loop-holds Inv-loop μ-loop
+loop-holds c = search needs
+
+shared-slice-read-put-byte : tie.Need-shared-slice-read-put-byte Inv-loop μ-loop
+shared-slice-read-put-byte c = search needs
+
+put-byte-requires : tie.Need-put-byte-requires Inv-loop μ-loop
+put-byte-requires c κs = search needs
+
+add-k : tie.Need-add-k Inv-loop μ-loop
+add-k c = search needs
+
+loop-less : tie.Need-loop-less Inv-loop μ-loop
+loop-less c = search needs
+
+loop-again : tie.Need-loop-again Inv-loop μ-loop
+loop-again c = search needs
+
+returns : tie.Need-returns Inv-loop μ-loop
+returns c = search needs
+
+pub put-spec : {M : Type 1} → statement M
+put-spec =
+    tie.close
+    (tie.spec
+    Inv-loop
+    μ-loop
+    loop-holds
+    shared-slice-read-put-byte
+    put-byte-requires
+    add-k
+    loop-less
+    loop-again
+    returns)
