@@ -55,20 +55,23 @@ def public(file):
 
 
 def edge():
-    """The crates at the edge."""
+    """The files of code whose contracts stand at the edge."""
     crates = {name for name in LEANING if not any(name in below for below in LEANING.values())}
     crates |= {lib.parts[-3] for lib in CRATES.glob("*/src/lib.rt") if "#[no_mangle]" in lib.read_text()}
+    files = {file for lib in (CRATES / name / "src" / "lib.rt" for name in crates) if lib.exists() for file in public(lib)}
     for main in CRATES.glob("*/src/main.rt"):
-        crates |= {*re.findall(r"^use (\w+)::", main.read_text(), re.M)} & {*LEANING}
-    return sorted(crates)
+        for part in main.parent.rglob("*.rt"):
+            for crate, path in re.findall(r"^use (\w+)::((?:\w+::)*)\w+;", part.read_text(), re.M):
+                if crate in LEANING:
+                    files.add(CRATES / crate / "src" / (path.strip(":").replace("::", "/") + ".rt" if path else "lib.rt"))
+    return files
 
 
 def believed():
     """The files that have to be believed, and the types."""
     waiting = [CRATES / file for file in ("promises/specs/Demands.antt", "dialogue/specs/Pieces.antt")]
     files, types = {*waiting}, set()
-    for lib in (CRATES / crate / "src" / "lib.rt" for crate in edge()):
-        waiting += public(lib) if lib.exists() else []
+    waiting += sorted(edge())
     while waiting:
         for found in cited(waiting.pop()):
             if isinstance(found, tuple):
