@@ -17,7 +17,7 @@ use Rattle.lists.specs.Listing.{made, left-by}
 use Rattle.lists.specs.declared.types.Made.{Made}
 use Rattle.lists.specs.declared.types.Made.the-variants.{Done, Wanted}
 use Rattle.gateway.specs.Restored.{told, outcome, Restored}
-use Rattle.changes.proofs.LengthLaws.{list-short}
+use Rattle.gateway.proofs.LengthLaws.{list-short}
 use Rattle.promised_lists.specs.Restoring.{list-left}
 
 -- the wanted image's refusal is the answer, if the current one is good

@@ -28,7 +28,7 @@ use Rattle.lists.specs.declared.types.Made.{Made}
 use Rattle.lists.specs.declared.types.Made.the-variants.{Done, Current, Wanted, NoRoom}
 use Rattle.gateway.specs.Restored.{told, outcome}
 use Rattle.delivery.specs.Delivery.{frames-in}
-use Rattle.changes.proofs.LengthLaws.{list-short}
+use Rattle.gateway.proofs.LengthLaws.{list-short}
 use Rattle.delivery.proofs.ListFrames.{frame-at, count-is, list-long, list-frames}
 use Rattle.promised_lists.specs.Restoring.{list-left, Sent, Restoring, Always-fits, Each-accepted, Arrives, Cut-anywhere, Count-is-difference, one-record, record-bytes, Shortest, Reaches, Turned-away, Turned-away-exactly, Refused-lists-write-nothing, One-list}
 use Rattle.promised_lists.proofs.Listed.{wanted-refused, number-is, buffer-is, left-is}

@@ -1,16 +1,19 @@
--- One character.
+-- A fixed text.
 -- Assumes nothing.
 use borrow.Author.Needs.{needs}
-use Rattle.answers.specs.Printing.{silentLine}
+use Rattle.answers.specs.Printing.{silentLine, ended}
 use Rattle.answers.proofs.printing.show_silent.Statement.{statement}
 use Rattle.answers.proofs.printing.show_silent.Tie as tie
 
-show-mark-requires : tie.Need-show-mark-requires
-show-mark-requires c κs = search needs
+slice-aggregate-show-text : tie.Need-slice-aggregate-show-text
+slice-aggregate-show-text c = search needs
+
+show-text-requires : tie.Need-show-text-requires
+show-text-requires c κs = search needs
 
 returns : tie.Need-returns
-unfolding silentLine
-returns c = c .show-mark .ensures
+unfolding silentLine ended
+returns c = c .show-text .ensures
 
 pub show-silent-spec : {M : Type 1} → statement M
-show-silent-spec = tie.close (tie.spec show-mark-requires returns)
+show-silent-spec = tie.close (tie.spec slice-aggregate-show-text show-text-requires returns)

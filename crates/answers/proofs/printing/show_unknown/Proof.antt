@@ -1,16 +1,19 @@
--- One character.
+-- A fixed text.
 -- Assumes nothing.
 use borrow.Author.Needs.{needs}
-use Rattle.answers.specs.Printing.{unknownLine}
+use Rattle.answers.specs.Printing.{unknownLine, ended}
 use Rattle.answers.proofs.printing.show_unknown.Statement.{statement}
 use Rattle.answers.proofs.printing.show_unknown.Tie as tie
 
-show-mark-requires : tie.Need-show-mark-requires
-show-mark-requires c κs = search needs
+slice-aggregate-show-text : tie.Need-slice-aggregate-show-text
+slice-aggregate-show-text c = search needs
+
+show-text-requires : tie.Need-show-text-requires
+show-text-requires c κs = search needs
 
 returns : tie.Need-returns
-unfolding unknownLine
-returns c = c .show-mark .ensures
+unfolding unknownLine ended
+returns c = c .show-text .ensures
 
 pub show-unknown-spec : {M : Type 1} → statement M
-show-unknown-spec = tie.close (tie.spec show-mark-requires returns)
+show-unknown-spec = tie.close (tie.spec slice-aggregate-show-text show-text-requires returns)

@@ -1,4 +1,4 @@
--- `taking::take_row` meets its contract: what is left of the row is walked over what is left of the bytes (`WalkLaws`).
+-- `walking::take_row` meets its contract: what is left of the row is walked over what is left of the bytes (`WalkLaws`).
 -- Assumes nothing.
 use mathlib.Core.Path.{_≡_, sym, ap, _∙_}
 use native.Mathlib.Omega.{arith}
@@ -8,8 +8,8 @@ use lib.ListN.{length}
 use Rattle.records.specs.Rows.{row-of, row-from, first-sub, last-sub}
 use Rattle.records.specs.Walk.{walked, behind}
 use Rattle.records.proofs.WalkLaws.{whole-taken, row-start, row-refused, row-on, row-done}
-use Rattle.taking.proofs.take_row.Statement.{statement}
-use Rattle.taking.proofs.take_row.Tie as tie
+use Rattle.walking.proofs.take_row.Statement.{statement}
+use Rattle.walking.proofs.take_row.Tie as tie
 
 abbrev Inv-loop : tie.InvT-loop
 Inv-loop body row last sub₀ rest₀ sub rest =
