@@ -2,9 +2,9 @@
 -- Assumes nothing.
 use Rattle.numbers.proofs.Tests.{tests}
 use Rattle.numbers.specs.Choice.{first}
-use Rattle.logic.specs.Gathering.{both}
-use Rattle.logic.proofs.is_both.Statement.{statement}
-use Rattle.logic.proofs.is_both.Tie as tie
+use Rattle.gathering.specs.Gathering.{both}
+use Rattle.gathering.proofs.is_both.Statement.{statement}
+use Rattle.gathering.proofs.is_both.Tie as tie
 
 returns : tie.Need-returns
 unfolding both first

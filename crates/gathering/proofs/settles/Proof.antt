@@ -2,9 +2,9 @@
 -- Assumes nothing.
 use Rattle.numbers.proofs.Tests.{tests}
 use Rattle.numbers.specs.Choice.{first}
-use Rattle.logic.specs.Gathering.{settled}
-use Rattle.logic.proofs.settles.Statement.{statement}
-use Rattle.logic.proofs.settles.Tie as tie
+use Rattle.gathering.specs.Gathering.{settled}
+use Rattle.gathering.proofs.settles.Statement.{statement}
+use Rattle.gathering.proofs.settles.Tie as tie
 
 returns : tie.Need-returns
 unfolding settled first

@@ -4,9 +4,9 @@ use mathlib.Core.Bool.{Bool, true, false}
 use mathlib.Core.Path.{_≡_, refl}
 use borrow.Author.Needs.{needs}
 use Rattle.numbers.specs.Choice.{first}
-use Rattle.logic.specs.Gathering.{counts}
-use Rattle.logic.proofs.does_count.Statement.{statement}
-use Rattle.logic.proofs.does_count.Tie as tie
+use Rattle.gathering.specs.Gathering.{counts}
+use Rattle.gathering.proofs.does_count.Statement.{statement}
+use Rattle.gathering.proofs.does_count.Tie as tie
 
 either : (t b : Bool) → b ≡ first t b b
 unfolding first

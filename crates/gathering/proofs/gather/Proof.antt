@@ -3,9 +3,9 @@
 use borrow.Author.Needs.{needs}
 use borrow.Author.Tests.{eq-eqb, ne-eqb}
 use Rattle.numbers.specs.Choice.{first}
-use Rattle.logic.specs.Gathering.{gathered}
-use Rattle.logic.proofs.gather.Statement.{statement}
-use Rattle.logic.proofs.gather.Tie as tie
+use Rattle.gathering.specs.Gathering.{gathered}
+use Rattle.gathering.proofs.gather.Statement.{statement}
+use Rattle.gathering.proofs.gather.Tie as tie
 
 does-count-requires : tie.Need-does-count-requires
 does-count-requires c κs = search needs

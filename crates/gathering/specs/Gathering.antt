@@ -1,12 +1,12 @@
 -- What a table's operator makes of its three conditions, taken one after the other: c counts from 0, and `so` is what was gathered before.
--- `LogicLaws` has it that three of them come to `holding`, and that nothing after a settled one matters.
+-- `GatheringLaws` has it that three of them come to `holding`, and that nothing after a settled one matters.
 -- Assumes nothing.
 use Prim.Native.Nat.{ℕ}
 use mathlib.Core.Bool.{Bool, true, false, not, _&&_, _||_}
 use lib.Dec.{eqb, ltb}
 use Rattle.numbers.specs.Choice.{first}
 use Rattle.logic.specs.Logic.{isTrue, allows}
 use Rattle.logic.specs.declared.Verdict.{Verdict}
 
 -- "1 all three, N/A counts as true"; "N/A is false in 2 to 4"
 unfoldable pub counts : ℕ → Verdict → Bool
