@@ -6,10 +6,10 @@ use mir.Syntax.{w16}
 use mir.Val.{toZ, ofZ}
 use Rattle.numbers.proofs.Tests.{tests}
 use Rattle.numbers.specs.Choice.{first}
 use Rattle.math.specs.Fold.{running}
 use Rattle.math.specs.Math.{ended}
-use Rattle.math.proofs.finish.Statement.{statement}
-use Rattle.math.proofs.finish.Tie as tie
+use Rattle.folding.proofs.finish.Statement.{statement}
+use Rattle.folding.proofs.finish.Tie as tie
 
 returns : tie.Need-returns
 unfolding ended running first

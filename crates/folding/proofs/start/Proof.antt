@@ -1,11 +1,11 @@
 -- `start`: without a number the fold stays broken, with one `scale` gives the run.
 -- Assumes nothing.
 use borrow.Author.Needs.{needs}
 use Rattle.math.specs.Fold.{begun, resumed}
 use Rattle.math.specs.Math.{started, starts}
 use Rattle.math.proofs.MathLaws.{unstarted}
-use Rattle.math.proofs.start.Statement.{statement}
-use Rattle.math.proofs.start.Tie as tie
+use Rattle.folding.proofs.start.Statement.{statement}
+use Rattle.folding.proofs.start.Tie as tie
 
 as-real-requires : tie.Need-as-real-requires
 as-real-requires c κs = search needs

@@ -3,10 +3,10 @@
 use mathlib.Core.Path.{sym}
 use borrow.Author.Needs.{needs}
 use Rattle.numbers.specs.Choice.{first}
 use Rattle.math.specs.Fold.{resumed}
 use Rattle.math.proofs.MathLaws.{unchanged}
-use Rattle.math.proofs.pass.Statement.{statement}
-use Rattle.math.proofs.pass.Tie as tie
+use Rattle.folding.proofs.pass.Statement.{statement}
+use Rattle.folding.proofs.pass.Tie as tie
 
 failed-requires : tie.Need-failed-requires
 failed-requires c κs = search needs

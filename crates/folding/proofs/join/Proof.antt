@@ -1,11 +1,11 @@
 -- `join`: without a number `pass` takes the fold on, with one `apply` joins it.
 -- Assumes nothing.
 use borrow.Author.Needs.{needs}
 use Rattle.math.specs.Fold.{running, toward}
 use Rattle.math.specs.Math.{joined, joins}
 use Rattle.math.proofs.MathLaws.{passed}
-use Rattle.math.proofs.join.Statement.{statement}
-use Rattle.math.proofs.join.Tie as tie
+use Rattle.folding.proofs.join.Statement.{statement}
+use Rattle.folding.proofs.join.Tie as tie
 
 as-real-requires : tie.Need-as-real-requires
 as-real-requires c κs = search needs

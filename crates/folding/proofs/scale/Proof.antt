@@ -4,9 +4,9 @@ use mathlib.Core.Path.{_≡_}
 use borrow.Author.Needs.{needs}
 use mir.Syntax.{w16}
 use mir.Val.{toZ, ofZ}
 use Rattle.math.specs.Math.{scaled}
-use Rattle.math.proofs.scale.Statement.{statement}
-use Rattle.math.proofs.scale.Tie as tie
+use Rattle.folding.proofs.scale.Statement.{statement}
+use Rattle.folding.proofs.scale.Tie as tie
 
 int-to-float-from : tie.Need-int-to-float-from
 int-to-float-from c = search needs
