@@ -19,8 +19,8 @@ use numbers::signed::pattern;
 use signals::reading::absent;
 use signals::reading::as_real;
 use signals::reading::as_whole;
+use sources::look_up;
 use unit::laying::lay;
-use unit::sources::look_up;
 use words::byte_at;
 use words::switched_at;
 

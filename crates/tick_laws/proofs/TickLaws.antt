@@ -21,11 +21,11 @@ use Rattle.math.specs.Math.{combined}
 use Rattle.table.specs.Table.{lookedUp}
 use Rattle.unit.specs.Each.{each}
 use Rattle.unit.specs.Entry.{entry, byte, switched, publish}
-use Rattle.unit.specs.Extent.{extent}
+use Rattle.sources.specs.Extent.{extent}
 use Rattle.unit.specs.Held.{maths, tables, logics, place, held, lay}
 use Rattle.unit.proofs.HeldLaws.{laid-down}
 use Rattle.unit.proofs.Slots.{has, have, array, table-var}
-use Rattle.unit.proofs.SourceLaws.{Nothing, names-nothing}
+use Rattle.sources.proofs.SourceLaws.{Nothing, names-nothing}
 use Rattle.maths.specs.Maths.{mathSignal, mathTurn}
 use Rattle.tables.specs.Tables.{of-table, tableSignal, tableTurn}
 use Rattle.logics.specs.Logics.{chosen, logicTurn}

@@ -2,10 +2,10 @@
 -- Assumes nothing.
 use Rattle.dictionary.specs.Unit.{signals-at}
 use Rattle.naming.proofs.NameLaws.{counted}
 use Rattle.unit.specs.Held.{place, at-row}
 use borrow.Author.Needs.{needs}
-use Rattle.unit.proofs.held.held.Statement.{statement}
-use Rattle.unit.proofs.held.held.Tie as tie
+use Rattle.sources.proofs.held.held.Statement.{statement}
+use Rattle.sources.proofs.held.held.Tie as tie
 
 mul-at : tie.Need-mul-at
 mul-at c = search needs

@@ -2,10 +2,10 @@
 -- Assumes nothing.
 use borrow.Author.Tests.{ne-eqb}
 use Rattle.numbers.specs.Choice.{first}
-use Rattle.unit.specs.Extent.{extent}
+use Rattle.sources.specs.Extent.{extent}
 use borrow.Author.Needs.{needs}
-use Rattle.unit.proofs.sources.extent.Statement.{statement}
-use Rattle.unit.proofs.sources.extent.Tie as tie
+use Rattle.sources.proofs.extent.Statement.{statement}
+use Rattle.sources.proofs.extent.Tie as tie
 
 mul-result : tie.Need-mul-result
 mul-result c = search needs

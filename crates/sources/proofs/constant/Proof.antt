@@ -2,11 +2,11 @@
 -- Assumes nothing.
 use mathlib.Core.Path.{refl}
 use native.Mathlib.Omega.{arith}
 use Rattle.unit.specs.Entry.{real}
 use Rattle.unit.proofs.Slots.{has, fixed-constant, constant}
 use borrow.Author.Needs.{needs}
-use Rattle.unit.proofs.sources.constant.Statement.{statement}
-use Rattle.unit.proofs.sources.constant.Tie as tie
+use Rattle.sources.proofs.constant.Statement.{statement}
+use Rattle.sources.proofs.constant.Tie as tie
 
 add-real-of : tie.Need-add-real-of
 add-real-of c = search needs

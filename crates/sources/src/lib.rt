@@ -1,9 +1,11 @@
 // The signal that a pair (source, number) names.
+mod held;
+
 ghost use mathlib.Core.Path.{_≡_};
 ghost use Prim.Native.Nat.{_<_, _≤_};
 ghost use Rattle.unit.specs.Entry as entry;
-ghost use Rattle.unit.specs.Extent.{extent};
-ghost use Rattle.unit.specs.Sources.{sourced};
+ghost use Rattle.sources.specs.Extent.{extent};
+ghost use Rattle.sources.specs.Sources.{sourced};
 use crate::held::held;
 use dictionary::slots::CONSTANT;
 use dictionary::slots::EC_VALUE;

@@ -7,13 +7,13 @@ use native.Mathlib.Omega.{arith}
 use Rattle.numbers.proofs.ExactLaws.{back}
 use Rattle.numbers.specs.Choice.{first}
 use Rattle.signals.specs.declared.signal.Signal.the-variants.{Whole, Real}
 use Rattle.unit.specs.Entry.{whole}
-use Rattle.unit.specs.Extent.{extent}
+use Rattle.sources.specs.Extent.{extent}
 use Rattle.unit.proofs.Slots.{has, array-sub}
-use Rattle.unit.proofs.SourceLaws.{names-nothing, received, constants, in-row}
+use Rattle.sources.proofs.SourceLaws.{names-nothing, received, constants, in-row}
 use borrow.Author.Needs.{needs}
-use Rattle.unit.proofs.sources.look_up.Statement.{statement}
-use Rattle.unit.proofs.sources.look_up.Tie as tie
+use Rattle.sources.proofs.look_up.Statement.{statement}
+use Rattle.sources.proofs.look_up.Tie as tie
 
 -- past the tests on the number, the source has it
 low : (s : tie.Else2) → 0 < s .before .before .before .args .number

@@ -11,10 +11,10 @@ use lib.Dec.{eqb, lit<, lit≤}
 use Rattle.numbers.specs.Choice.{first}
 use Rattle.signals.specs.declared.signal.Signal.{Signal}
 use Rattle.signals.specs.declared.signal.Signal.the-variants.{Whole, Real, Absent}
 use Rattle.unit.specs.Entry.{whole, real}
-use Rattle.unit.specs.Extent.{extent}
+use Rattle.sources.specs.Extent.{extent}
 use Rattle.unit.specs.Held.{inputs, maths, tables, logics, held, at-row}
-use Rattle.unit.specs.Sources.{among, sourced}
+use Rattle.sources.specs.Sources.{among, sourced}
 
 -- a number from 1 to the count names something
 pub some-among : (count number : ℕ) (v : Signal) → 0 < number → number ≤ count → among count number v ≡ v
