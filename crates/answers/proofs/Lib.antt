@@ -1,4 +1,2 @@
 pub mod Answers
-pub mod Places
-pub mod Signs
 pub mod Stores

@@ -1,6 +1,5 @@
 pub mod ComparingLaws
 pub mod FindingLaws
-pub mod LengthLaws
 pub mod NotingLaws
 pub mod OrderLaws
 pub mod StandingLaws

@@ -1,30 +1,13 @@
 // One tick: inputs, math, tables, logic, outputs, then 1001h.
 ghost use mathlib.Core.Path.{_≡_};
-ghost use Rattle.controller.specs.Tick.{anyFlagged, registered, ticked};
-use dictionary::slots::ERROR_REGISTER;
-use dictionary::slots::FLAGS;
+ghost use Rattle.controller.specs.Tick.{ticked};
 use dictionary::slots::Unit;
+use error_register::register;
 use inputs::inputs;
 use logics::logics;
 use maths::maths;
 use outputs::outputs;
 use tables::tables;
-
-fn any_flagged(unit: &Unit) -> bool
-    ensures { λ r. ⌜ r ≡ anyFlagged (now (unit .entry)) ⌝ }
-{
-    (unit[FLAGS] != 0) | (unit[FLAGS + 1] != 0) | (unit[FLAGS + 2] != 0) | (unit[FLAGS + 3] != 0)
-}
-
-fn register(unit: &mut Unit)
-    ensures { λ _. ⌜ now (unit .exit) ≡ registered (now (unit .entry)) ⌝ }
-{
-    if any_flagged(unit) {
-        unit[ERROR_REGISTER] = 0x21;
-    } else {
-        unit[ERROR_REGISTER] = 0;
-    }
-}
 
 // Any words, any samples.
 pub fn tick(unit: &mut Unit, samples: [i16; 4])

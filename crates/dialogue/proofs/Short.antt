@@ -16,8 +16,8 @@ use Rattle.lines.specs.declared.reading.Verb.{Verb}
 use Rattle.lines.specs.declared.reading.Verb.the-variants.{Frame, Tick, Unknown}
 use Rattle.lines.specs.Reading.{asked}
 use Rattle.answers.specs.Printing.{hex2, each, decimal, ended, replyLine, tickLine, silentLine, unknownLine}
-use Rattle.answers.proofs.Answers.{commandPut, tick-put}
-use Rattle.answers.proofs.Places.{decimal-most}
+use Rattle.answer_lines.proofs.Lines.{commandPut, tick-put}
+use Rattle.answer_lines.proofs.Places.{decimal-most}
 use Rattle.printer.specs.Answering.{shown, decided, served, stateLine, sampled, unheard, done, said}
 use Rattle.dialogue.specs.Dialogue.{told}
 

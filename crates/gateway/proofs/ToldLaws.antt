@@ -16,7 +16,7 @@ use Rattle.records.specs.declared.types.Refusal.{Refusal}
 use Rattle.refusals.specs.Told as image
 use Rattle.reading.specs.Reading.{reading}
 use Rattle.changes.specs.Changes.{list-of}
-use Rattle.changes.proofs.LengthLaws.{list-short}
+use Rattle.gateway.proofs.LengthLaws.{list-short}
 use Rattle.lists.specs.Listing.{made, left-by, Listing}
 use Rattle.lists.specs.declared.types.Made.{Made}
 use Rattle.lists.specs.declared.types.Made.the-variants.{Done, Current, Wanted, NoRoom}

@@ -7,9 +7,9 @@ use mathlib.Core.Path.{_≡_, refl, ap, _∙_}
 use native.Mathlib.Numerals.{add-one}
 use native.Mathlib.Omega.{arith}
 use Rattle.numbers.specs.Choice.{first}
-use Rattle.logic.specs.Gathering.{gathered, settled}
+use Rattle.gathering.specs.Gathering.{gathered, settled}
 use Rattle.logic.specs.Logic.{holding}
-use Rattle.logic.proofs.LogicLaws.{gathered-all, stays}
+use Rattle.gathering.proofs.GatheringLaws.{gathered-all, stays}
 use Rattle.unit.specs.Entry.{byte}
 use Rattle.logics.specs.Logics.{of-logic, of-condition, conditionOf, holdsOf, firstOf}
 

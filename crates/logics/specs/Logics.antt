@@ -13,7 +13,7 @@ use Rattle.logic.specs.Logic.{verdict, holding}
 use Rattle.logic.specs.declared.Verdict.{Verdict}
 use Rattle.unit.specs.Entry.{byte, switched, publish}
 use Rattle.unit.specs.Held.{logics, lay}
-use Rattle.unit.specs.Sources.{sourced}
+use Rattle.sources.specs.Sources.{sourced}
 
 -- "4x01h, x=1..2": an index of the family
 abbrev pub of-logic : ℕ → ℕ → ℕ

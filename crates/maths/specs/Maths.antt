@@ -10,7 +10,7 @@ use Rattle.math.specs.declared.Operand.{Operand}
 use Rattle.math.specs.declared.Ends.{Ends}
 use Rattle.unit.specs.Entry.{whole, byte, switched, publish}
 use Rattle.unit.specs.Held.{maths, lay}
-use Rattle.unit.specs.Sources.{sourced}
+use Rattle.sources.specs.Sources.{sourced}
 
 -- "y=6..9 for math 1..4": an index of the family
 abbrev pub of-math : ℕ → ℕ → ℕ

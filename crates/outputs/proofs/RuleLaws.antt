@@ -9,7 +9,7 @@ use Rattle.signals.specs.Signal.{isError}
 use Rattle.turning.specs.Turning.{turnedOff}
 use Rattle.output.proofs.RuleLaws.{by-signals}
 use Rattle.unit.specs.Entry.{whole, byte}
-use Rattle.unit.specs.Sources.{sourced}
+use Rattle.sources.specs.Sources.{sourced}
 use Rattle.outputs.specs.Outputs.{settings, commandOf}
 use Rattle.outputs.specs.Rules.{faultFor, controlled, overridden}
 

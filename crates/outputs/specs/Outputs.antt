@@ -7,7 +7,7 @@ use Rattle.numbers.specs.Signed.{pattern16}
 use Rattle.output.specs.Output.{command}
 use Rattle.output.specs.declared.Settings.{Settings}
 use Rattle.unit.specs.Entry.{whole, byte, time, publish}
-use Rattle.unit.specs.Sources.{sourced}
+use Rattle.sources.specs.Sources.{sourced}
 
 -- "7320h, 7322h, 7321h, 7323h: PV1, PV2; FV1, FV2", "6340h, 7341h, 2300h: fault mode; fault FV, override FV", "2330h, 2331h ramp up, down",
 -- "2352h, 2362h: response"

@@ -9,7 +9,7 @@ use Rattle.signals.specs.Signal as signals
 use Rattle.output.specs.Output.{faultOf, ramped}
 use Rattle.turning.specs.Turning.{turnedOn}
 use Rattle.unit.specs.Entry.{whole, byte}
-use Rattle.unit.specs.Sources.{sourced}
+use Rattle.sources.specs.Sources.{sourced}
 use Rattle.outputs.specs.Outputs.{settings}
 
 unfoldable pub faultFor : List ℕ → ℕ → ℤ

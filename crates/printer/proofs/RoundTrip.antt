@@ -18,7 +18,7 @@ use Rattle.lines.specs.Reading.{fields, letter, isDigit, minus, unsigned, tens,
 use Rattle.lines.proofs.Cutting.{whole, apart}
 use Rattle.lines.proofs.Decimals.{digit-yes, minus-in, plain-in}
 use Rattle.lines.proofs.Every.{both, every-append, every-weaker}
-use Rattle.answers.proofs.Places.{length-digits, width-range}
+use Rattle.answer_lines.proofs.Places.{length-digits, width-range}
 
 -- ---- digits are digits, as many as the number needs, and say the number
 last-are-digits : (w n : ℕ) → every isDigit (lastDigits w n) ≡ true

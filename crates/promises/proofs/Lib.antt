@@ -1,15 +1,2 @@
-pub mod Accepted
 pub mod Bench
-pub mod ByteLaws
 pub mod Demands
-pub mod Images
-pub mod Judged
-pub mod Listed
-pub mod Reached
-pub mod ReadBack
-pub mod Restoring
-pub mod Running
-pub mod Serving
-pub mod Spent
-pub mod Underway
-pub mod Writing

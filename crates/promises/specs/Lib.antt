@@ -1,6 +1,2 @@
 pub mod Bench
 pub mod Demands
-pub mod Images
-pub mod Restoring
-pub mod Running
-pub mod Serving

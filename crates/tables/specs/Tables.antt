@@ -10,7 +10,7 @@ use Rattle.dictionary.specs.Names.{slot-of}
 use Rattle.table.specs.Table.{lookedUp}
 use Rattle.unit.specs.Entry.{byte, publish}
 use Rattle.unit.specs.Held.{tables, lay}
-use Rattle.unit.specs.Sources.{sourced}
+use Rattle.sources.specs.Sources.{sourced}
 
 -- "30z0h, z=1..6": an index of the family
 abbrev pub of-table : ℕ → ℕ → ℕ

@@ -16,8 +16,8 @@ use dictionary::slots::Unit;
 use numbers::signed::pattern;
 use signals::reading::as_whole;
 use signals::signal::Signal;
+use sources::look_up;
 use unit::laying::lay;
-use unit::sources::look_up;
 use words::byte_at;
 
 // Eleven words from each of three slots.

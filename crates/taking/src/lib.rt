@@ -1,11 +1,11 @@
-// One record, and the records of one row.
+// One record of an image, from the front of what is left of it.
 ghost use mathlib.Core.Path.{_≡_};
 ghost use Prim.Native.Nat.{_≤_, _<_};
 ghost use lib.ListN.{length};
 ghost use Rattle.dictionary.specs.Rows.{width};
 ghost use Rattle.roles.specs.Roles.{ranged};
-ghost use Rattle.records.specs.Rows.{role-at, greatest, entry-at, row-of};
-ghost use Rattle.records.specs.Walk.{sized, decoded, walked};
+ghost use Rattle.records.specs.Rows.{role-at, greatest, entry-at};
+ghost use Rattle.records.specs.Walk.{sized, decoded};
 use entries::ranges::fits;
 use little::four_at;
 use little::two_at;
@@ -90,7 +90,8 @@ fn take_named(rest: &[u8], row: u32, sub: u8) -> Walked
     take_sized(rest, row, sub, role, width_of(role))
 }
 
-fn take_record(rest: &[u8], row: u32, sub: u8) -> Walked
+// Any bytes.
+pub fn take_record(rest: &[u8], row: u32, sub: u8) -> Walked
     ensures { λ r. ⌜ r ≡ decoded (entry-at row sub) (now (rest .entry)) ⌝ }
 {
     if rest.len() < 7 {
@@ -103,22 +104,4 @@ fn take_record(rest: &[u8], row: u32, sub: u8) -> Walked
         return Walked::Refused(Refusal::NotNext);
     }
     take_named(rest, row, sub)
-}
-
-// The records of a row, one after the other.
-pub fn take_row(body: &[u8], row: u32) -> Walked
-    ensures { λ r. ⌜ r ≡ walked (row-of row) (now (body .entry)) ⌝ }
-{
-    let last = (row / 0x100 % 0x10) as u8;
-    let mut sub = (row / 0x1000 % 0x10) as u8;
-    let mut rest = body;
-    while sub <= last {
-        let record = take_record(rest, row, sub);
-        let Walked::Taken(n) = record else {
-            return record;
-        };
-        rest = &rest[n..];
-        sub += 1;
-    }
-    Walked::Taken(body.len() - rest.len())
 }

@@ -1,5 +1,4 @@
 pub mod Each
 pub mod HeldLaws
 pub mod Slots
-pub mod SourceLaws
 pub mod WordLaws

@@ -1,4 +1,2 @@
-// The unit as the blocks of a tick use it: the signals that it keeps, and what a source names.
-mod held;
+// The unit as the blocks of a tick use it: its words by their names, and the signals that it keeps.
 pub mod laying;
-pub mod sources;

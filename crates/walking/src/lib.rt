@@ -10,7 +10,25 @@ use dictionary::slots::EC_VALUE;
 use little::four_at;
 use records::types::Refusal;
 use records::types::Walked;
-use taking::take_row;
+use taking::take_record;
+
+// The records of a row, one after the other.
+fn take_row(body: &[u8], row: u32) -> Walked
+    ensures { λ r. ⌜ r ≡ walked (row-of row) (now (body .entry)) ⌝ }
+{
+    let last = (row / 0x100 % 0x10) as u8;
+    let mut sub = (row / 0x1000 % 0x10) as u8;
+    let mut rest = body;
+    while sub <= last {
+        let record = take_record(rest, row, sub);
+        let Walked::Taken(n) = record else {
+            return record;
+        };
+        rest = &rest[n..];
+        sub += 1;
+    }
+    Walked::Taken(body.len() - rest.len())
+}
 
 // The records of some rows, one after the other.
 fn walk_rows(body: &[u8], rows: &[u32]) -> Walked

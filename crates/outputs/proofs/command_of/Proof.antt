@@ -8,7 +8,7 @@ use Rattle.numbers.specs.Choice.{first}
 use Rattle.turning.specs.Turning.{turnedOff}
 use Rattle.unit.proofs.Slots.{has}
 use Rattle.unit.specs.Entry.{byte}
-use Rattle.unit.specs.Sources.{sourced}
+use Rattle.sources.specs.Sources.{sourced}
 use Rattle.outputs.proofs.RuleLaws.{by-enable}
 use Rattle.unit.proofs.WordLaws.{byte-is}
 use borrow.Author.Needs.{needs}

@@ -7,7 +7,7 @@ use Rattle.numbers.proofs.ExactLaws.{back}
 use Rattle.numbers.specs.Choice.{first}
 use Rattle.unit.proofs.Slots.{has}
 use Rattle.unit.specs.Entry.{byte}
-use Rattle.unit.specs.Sources.{sourced}
+use Rattle.sources.specs.Sources.{sourced}
 use Rattle.outputs.specs.Rules.{controlled}
 use Rattle.unit.proofs.WordLaws.{byte-is, whole-is}
 use borrow.Author.Needs.{needs}

@@ -8,7 +8,7 @@ use Rattle.numbers.specs.Choice.{first}
 use Rattle.turning.specs.Turning.{turnedOn}
 use Rattle.unit.proofs.Slots.{has}
 use Rattle.unit.specs.Entry.{byte}
-use Rattle.unit.specs.Sources.{sourced}
+use Rattle.sources.specs.Sources.{sourced}
 use Rattle.outputs.specs.Rules.{overridden}
 use Rattle.unit.proofs.WordLaws.{byte-is, whole-is}
 use borrow.Author.Needs.{needs}

@@ -1,21 +1,19 @@
--- A fixed text, put at the buffer's start.
+-- A fixed text.
 -- Assumes nothing.
-use native.Mathlib.Omega.{arith}
 use borrow.Author.Needs.{needs}
-use Rattle.answers.specs.Printing.{ended, silentLine}
-use Rattle.answers.proofs.Stores.{printed}
+use Rattle.answers.specs.Printing.{silentLine, ended}
 use Rattle.answers.proofs.printing.show_silent.Statement.{statement}
 use Rattle.answers.proofs.printing.show_silent.Tie as tie
 
-slice-aggregate-put-text : tie.Need-slice-aggregate-put-text
-slice-aggregate-put-text c = search needs
+slice-aggregate-show-text : tie.Need-slice-aggregate-show-text
+slice-aggregate-show-text c = search needs
 
-put-text-requires : tie.Need-put-text-requires
-put-text-requires c κs = search needs
+show-text-requires : tie.Need-show-text-requires
+show-text-requires c κs = search needs
 
 returns : tie.Need-returns
 unfolding silentLine ended
-returns c = printed (c .put-text .ensures) (omega arith)
+returns c = c .show-text .ensures
 
 pub show-silent-spec : {M : Type 1} → statement M
-show-silent-spec = tie.close (tie.spec slice-aggregate-put-text put-text-requires returns)
+show-silent-spec = tie.close (tie.spec slice-aggregate-show-text show-text-requires returns)

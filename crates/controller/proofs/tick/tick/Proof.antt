@@ -6,7 +6,8 @@ use Rattle.maths.specs.Maths.{mathTurn}
 use Rattle.tables.specs.Tables.{tableTurn}
 use Rattle.logics.specs.Logics.{logicTurn}
 use Rattle.outputs.specs.Outputs.{outputTurn}
-use Rattle.controller.specs.Tick.{registered, ticked}
+use Rattle.error_register.specs.Register.{registered}
+use Rattle.controller.specs.Tick.{ticked}
 use borrow.Author.Needs.{needs}
 use Rattle.controller.proofs.tick.tick.Statement.{statement}
 use Rattle.controller.proofs.tick.tick.Tie as tie

@@ -1,0 +1,35 @@
+// The answers to a frame and to a tick, into a lent buffer that has room for every answer.
+mod put;
+
+ghost use Rattle.answers.specs.Printing.{Printed, replyLine, tickLine};
+use crate::put::put_command;
+use crate::put::put_hex;
+use crate::put::put_register;
+use crate::put::put_text;
+
+// A reply shorter than eight bytes prints nothing.
+pub fn show_reply(reply: &[u8], out: &mut [u8; 64]) -> usize
+    ensures { λ r. ⌜ Printed (replyLine (now (reply .entry))) (now (out .entry)) (now (out .exit)) r ⌝ }
+{
+    if reply.len() < 8 {
+        return 0;
+    }
+    let mut k: usize = 0;
+    while k < 8 {
+        put_hex(reply[k], 2 * k, out);
+        k += 1;
+    }
+    put_text(b"\n", 16, out)
+}
+
+pub fn show_tick(commands: [i16; 4], register: u8, out: &mut [u8; 64]) -> usize
+    ensures { λ r. ⌜ Printed (tickLine commands register) (now (out .entry)) (now (out .exit)) r ⌝ }
+{
+    let mut at = put_text(b"O", 0, out);
+    let mut k: usize = 0;
+    while k < 4 {
+        at = put_command(commands[k], at, out);
+        k += 1;
+    }
+    put_register(register, at, out)
+}

@@ -1,0 +1,89 @@
+-- The promises of images.
+-- Assumes nothing.
+use mathlib.Core.Path.{_≡_, refl, sym, ap, _∙_}
+use mathlib.Core.Bool.{Bool, true, false}
+use mathlib.Core.List.{List, [], _++_, append-nil}
+use Prim.Native.Nat.{ℕ, _≤_}
+use native.Mathlib.Omega.{arith}
+use lib.Dec.{ltb}
+use lib.ListN.{length, take, drop}
+use lib.Seq.{take-at}
+use Rattle.numbers.specs.Choice.{first}
+use Rattle.dictionary.specs.Names.{configured}
+use Rattle.roles.specs.Values.{at-start}
+use Rattle.records.specs.Layout.{image-of}
+use Rattle.records.specs.declared.types.Outcome.{Outcome}
+use Rattle.records.specs.declared.types.Outcome.the-variants.{Good, Refused}
+use Rattle.records.specs.declared.types.Refusal.{Refusal}
+use Rattle.records.specs.declared.types.Refusal.the-variants.{NoRoom}
+use Rattle.reading.specs.Reading.{reading, configuration-in}
+use Rattle.reading.proofs.Acceptance.{accepted, accepts, not-good}
+use Rattle.writing.specs.Written.{Written, image-size}
+use Rattle.records.proofs.SizeLaws.{image-length}
+use Rattle.image.specs.Loaded.{loaded}
+use Rattle.image.proofs.ImageTrips.{configuration-back, image-accepted, bytes-again, configuration-valid}
+use Rattle.promised_runs.specs.Running.{run}
+use Rattle.promised_images.specs.Images.{Saved-reads-back, Same-bytes-again, Accepts-exactly, One-configuration-each, Refusals-write-nothing}
+use Rattle.promised_runs.proofs.Running.{sizes, always-sound}
+
+-- ---- what a contract leaves
+
+module _ {words buffer buffer′ : List ℕ} {w : Outcome} (s : Written words buffer buffer′ w) where
+  roomy : w ≡ Good → ltb (length buffer) image-size ≡ false
+  unfolding first
+  roomy g = go (ltb (length buffer) image-size) (sym (s .answered) ∙ g)
+    where
+      go : (b : Bool) → first b (Refused NoRoom) Good ≡ Good → b ≡ false
+      go true e = absurd (not-good e)
+      go false e = refl
+
+  pub image-there : w ≡ Good → take image-size buffer′ ≡ image-of words
+  unfolding first image-size
+  image-there g = rw (s .bytes, roomy g) (take-at (image-of words) (drop 5207 buffer) 5207 (image-length words))
+
+  nothing-there : (why : Refusal) → w ≡ Refused why → buffer′ ≡ buffer
+  unfolding first
+  nothing-there why e = go (ltb (length buffer) image-size) (sym (s .answered) ∙ e) (s .bytes)
+    where
+      go : (b : Bool) → first b (Refused NoRoom) Good ≡ Refused why → buffer′ ≡ first b buffer (image-of words ++ drop image-size buffer) → buffer′ ≡ buffer
+      go true q h = h
+      go false q h = absurd (not-good (sym q))
+
+-- ---- the promises
+
+pub saved-reads-back : Saved-reads-back
+unfolding loaded
+saved-reads-back events buffer buffer′ other other′ w r made s g l =
+    let sound = always-sound events made in
+    let unit = run events at-start in
+    let long : configured ≤ length unit = omega (arith, sound .size, sizes) in
+    let image = image-there s g in
+    let good : reading (take image-size buffer′) ≡ Good = ap reading image ∙ accepts (image-of unit) (image-accepted unit (sound .valid) long) in (
+      l .answered ∙ good,
+      l .state ∙ ap (loaded (take image-size buffer′) other) good
+          ∙ ap (λ (c : List ℕ). c ++ drop configured other) (ap configuration-in image ∙ configuration-back unit (sound .valid) long),
+    )
+
+pub same-bytes-again : Same-bytes-again
+unfolding loaded
+same-bytes-again image unit unit′ buffer buffer′ r w b l g s h =
+    let good = sym (l .answered) ∙ g in
+    image-there s h ∙ ap image-of (l .state ∙ ap (loaded image unit) good) ∙ bytes-again image (accepted image good) b (drop configured unit)
+
+pub accepts-exactly : Accepts-exactly
+accepts-exactly = (
+  λ image b g. (
+    configuration-valid image (accepted image g) b,
+    sym (bytes-again image (accepted image g) b []) ∙ ap image-of (append-nil (configuration-in image)),
+  ),
+  λ unit long v. accepts (image-of unit) (image-accepted unit v long),
+)
+
+pub one-configuration-each : One-configuration-each
+one-configuration-each unit other long long′ v v′ e =
+    sym (configuration-back unit v long) ∙ ap configuration-in e ∙ configuration-back other v′ long′
+
+pub refusals-write-nothing : Refusals-write-nothing
+unfolding loaded
+refusals-write-nothing =
+    (λ words buffer buffer′ why s. nothing-there s why refl, λ image unit unit′ why l. l .state ∙ ap (loaded image unit) (sym (l .answered)))

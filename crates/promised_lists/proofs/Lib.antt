@@ -1,0 +1,5 @@
+pub mod Listed
+pub mod Reached
+pub mod Restoring
+pub mod Spent
+pub mod Underway
