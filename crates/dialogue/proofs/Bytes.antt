@@ -141,7 +141,7 @@ cut-next line p b = foldl-append joined (record { finished = []; unfinished = li
 module _ (k : Kept) (h : length (k .line) ≡ 65) (p : List ℕ) (b : ℕ) where
   pub after-next : after k (p ++ b ∷ []) ≡ step (after k p) b
   unfolding after goes-on kept-by
-  after-next = rw (cut-next (take (k .held) (k .line)) p b) (kept-next k h (cut (take (k .held) (k .line)) p) b)
+  after-next = ap (kept-by k) (cut-next (take (k .held) (k .line)) p b) ∙ kept-next k h (cut (take (k .held) (k .line)) p) b
 
   pub prints-next : prints k (p ++ b ∷ []) ≡ prints k p ++ speaks (after k p) b
   unfolding prints after goes-on kept-by
