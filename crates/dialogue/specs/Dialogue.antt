@@ -63,7 +63,7 @@ goes-on k piece = cut (take (k .held) (k .line)) piece
 unfoldable pub prints : Kept → List ℕ → List ℕ
 prints k piece = answered (goes-on k piece .finished) (k .unit) .printed
 
--- each line is written over the one before; of a line that is longer than the array the array's bytes are kept
+-- in the lent array each line is written over the one before, as far as there is room
 unfoldable pub over : List ℕ → List ℕ → List ℕ
 over bytes line = sets bytes 0 line
 
