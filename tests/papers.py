@@ -1,6 +1,6 @@
 """The documents against the tree: what they name is there, and TRUST.md's tables are what is found.
 
-    python3 papers.py            status 1 at a crate, file, edit, function or definition that is named and is not there,
+    python3 papers.py            status 1 at a crate, file, wrong answer, function or definition that is named and not there,
                                  at a table that is not as found, or at a public function without its contract
     python3 papers.py --write    writes TRUST.md's tables anew, in place
 
@@ -15,6 +15,8 @@ import functools
 import pathlib
 import re
 import sys
+
+import wrong_answers
 
 ROOT = pathlib.Path(__file__).resolve().parent.parent
 CRATES = ROOT / "crates"
@@ -155,6 +157,9 @@ def words_of(*patterns):
     return {word for file in files for word in re.findall(r"\w[\w-]*", file.read_text(errors="replace"))}
 
 
+wrong_names = functools.cache(wrong_answers.names)
+
+
 def is_file(word, paper):
     if word.startswith("target/"):  # made by rt
         return True
@@ -177,7 +182,7 @@ def is_there(name, paper):
         module, function = name.split("::")
         return bool(fnmatch.filter(words_of("crates/%s/src/lib.rt" % module, "crates/*/src/**/%s.rt" % module), function))
     if re.fullmatch(r"\w[\w-]*|[A-Z]\w*::\w+", name):
-        return any(CRATES.glob("*/must-fail/%s.edit" % name)) or {*name.split("::")} <= words_of(*WORDS)
+        return name in wrong_names("*") or {*name.split("::")} <= words_of(*WORDS)
     return all(is_file(word, paper) for word in name.split() if is_path(word))
 
 
@@ -194,14 +199,14 @@ def cells(column):
             yield from row[column].strip().split("; ")
 
 
-def missing_edits():
-    """Edits that TRACE.md names in its last column, as 'crate `edit`, `edit`', and that are not there."""
+def missing_wrong_answers():
+    """Wrong answers that TRACE.md names in its last column, as 'crate `name`, `name`', and that are not tried."""
     for piece in cells(3):
         crate = piece.split()[0] if piece else ""
-        edits = TICKED.findall(piece) or (["*"] if piece.endswith(" edits") else [])
-        for edit in edits:
-            crates = piece.split(" edits")[0].split(" and ") if edit == "*" else [crate]
-            yield from ("%s `%s`" % (crate, edit) for crate in crates if not any(CRATES.glob("%s/must-fail/%s.edit" % (crate, edit))))
+        named = TICKED.findall(piece) or (["*"] if piece.endswith(" edits") else [])
+        for name in named:
+            crates = piece.split(" edits")[0].split(" and ") if name == "*" else [crate]
+            yield from ("%s `%s`" % (crate, name) for crate in crates if not fnmatch.filter(wrong_names(crate), name))
 
 
 def missing_readings():
@@ -246,7 +251,7 @@ def main(words):
         TRUST.write_text(with_tables(TRUST.read_text()))
         return 0
     missing = ["%s: %s" % (paper.relative_to(ROOT), name) for paper in PAPERS for name in missing_names(paper)]
-    missing += ["docs/TRACE.md: " + name for name in (*missing_edits(), *missing_readings(), *missing_definitions())]
+    missing += ["docs/TRACE.md: " + name for name in (*missing_wrong_answers(), *missing_readings(), *missing_definitions())]
     bare = list(bare_functions())
     print("".join("%s is not there\n" % name for name in missing) + "".join("%s\n" % name for name in bare), end="")
     stale = with_tables(TRUST.read_text()) != TRUST.read_text()
