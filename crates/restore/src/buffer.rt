@@ -24,25 +24,6 @@ pub fn put(buffer: &mut Buffer, at: usize, piece: &[u8]) -> usize {
     end
 }
 
-// One of several words with commas between them; the first has the number 0.
-pub fn put_one(buffer: &mut Buffer, at: usize, words: &[u8], number: u16) -> usize {
-    let mut end = at;
-    let mut left = number;
-    let mut k: usize = 0;
-    while k < words.len() {
-        if words[k] == b',' {
-            if left == 0 {
-                return end;
-            }
-            left -= 1;
-        } else if left == 0 {
-            end = put_byte(buffer, end, words[k]);
-        }
-        k += 1;
-    }
-    end
-}
-
 pub fn put_decimal(buffer: &mut Buffer, at: usize, number: u64) -> usize {
     let mut digits = [0u8; 20];
     let n = io::decimal(number, &mut digits);

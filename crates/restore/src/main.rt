@@ -3,6 +3,7 @@
 mod buffer;
 mod files;
 mod real;
+mod rows;
 mod showing;
 mod words;
 
@@ -21,6 +22,8 @@ use lists::make_list;
 use lists::types::Made;
 use little::four_at;
 use records::types::Refusal;
+use rows::put_row;
+use rows::row_of;
 use showing::show;
 
 // The paper's number.
@@ -40,16 +43,19 @@ fn number_of(why: Refusal) -> u8
 }
 
 fn put_reason(line: &mut Buffer, at: usize, why: Refusal) -> usize {
-    match why {
-        Refusal::EndedEarly => put(line, at, b"it ends early"),
-        Refusal::WrongCount => put(line, at, b"it does not count 611 records"),
-        Refusal::NotNext => put(line, at, b"a record is not that of the next entry"),
-        Refusal::WrongSize => put(line, at, b"a record has the wrong size"),
-        Refusal::OutOfRange => put(line, at, b"a value is out of its range"),
-        Refusal::OutOfOrder => put(line, at, b"two values are not in order"),
-        Refusal::LeftOver => put(line, at, b"there are bytes behind the last record"),
-        Refusal::NoRoom => put(line, at, b"there is no room"),
-    }
+    let row = row_of(
+        b"1 it ends early
+2 it does not count 611 records
+3 a record is not that of the next entry
+4 a record has the wrong size
+5 a value is out of its range
+6 two values are not in order
+7 there are bytes behind the last record
+8 there is no room
+",
+        &[b'0' + number_of(why) % 10],
+    );
+    put_row(line, at, row, 2, 0, 0)
 }
 
 fn refuse(what: &[u8], why: Refusal) {
