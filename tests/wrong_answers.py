@@ -3,13 +3,13 @@
     python3 wrong_answers.py    after `rt ci`, whose logs it reads; status 1 at a wrong answer that is not refused
 
 An edit makes wrong answers, and `rt ci` tells that its check was refused. A check judges each function by its own code and by the
-contracts of what it calls. So an edit may hold a wrong answer of each of several functions, as 'wrong: NAME by FUNCTION' before
-its changes, and one check tries them all; what it says of each function's own proof tells whether that one is refused.
+contracts of what it calls, and each law by its own statement. So an edit may hold a wrong answer of each of several functions, or a
+wrong statement of each of several laws, as 'wrong: NAME by FUNCTION' or 'wrong: NAME by File.law' before its changes. One check
+tries them all; what it says of each function's own proof, or of each law, tells whether that one is refused.
 
-Of such an edit: each wrong answer is another function's, its changes stand in that function's body or in a constant that nothing
-else uses, the check has found a fact of that function's proof that does not hold, and nothing else is unproved but for what calls
-one of them. Of an edit without such lines, which is one wrong answer and has its file's name: the check has found a fact that
-does not hold.
+Of such an edit: each wrong answer is another function's or law's; its changes stand in what is that one's alone; the check has found
+a fact there that does not hold; and nothing else is unproved but for what rests on one of them. Of an edit without such lines,
+which is one wrong answer and has its file's name: the check has found a fact that does not hold.
 """
 
 import pathlib
@@ -20,17 +20,17 @@ ROOT = pathlib.Path(__file__).resolve().parent.parent
 CRATES = ROOT / "crates"
 LOGS = ROOT / "target" / "must-fail"
 
-WRONG = re.compile(r"wrong: (\w+) by ([\w:]+)")
+WRONG = re.compile(r"wrong: (\w+) by ([\w:.-]+)")
 VERDICT = re.compile(r"fn \w+?::([\w:]+): (.*)")
-ERROR = re.compile(r"(\S+\.antt):\d+:\d+: error: (.*)")
+ERROR = re.compile(r"(\S+)\.antt:\d+:\d+: error: `([^`]+)`: (.*)")
 FOLLOWS = ("was not admitted", "not in scope")  # of what is left over when something else was refused
 
 
 class Wrong:
-    """A wrong answer: its name, the function that gives it where one is named, and the texts that it changes."""
+    """A wrong answer: its name, whose it is where that is said, and the texts that it changes."""
 
-    def __init__(self, name, function):
-        self.name, self.function, self.changes = name, function, []
+    def __init__(self, name, whose):
+        self.name, self.whose, self.changes = name, whose, []
 
 
 def wrong_answers(edit):
@@ -55,10 +55,14 @@ def names(crate):
 
 
 def uses(text, name):
-    return len(re.findall(r"\b%s\b" % name, text))
+    return len(re.findall(r"\b%s\b" % re.escape(name), text))
 
 
-def own(crate, function):
+def everything(crate, pattern):
+    return "".join(file.read_text() for file in (CRATES / crate).glob(pattern))
+
+
+def of_function(crate, function):
     """The function's file below its crate, and what is its alone there: its body, and constants that nothing else uses."""
     *modules, name = function.split("::")
     file = "src/%s.rt" % "/".join(modules or ["lib"])
@@ -66,44 +70,56 @@ def own(crate, function):
     head = re.search(r"^(pub )?(extern \"C\" )?fn %s\(" % name, text, re.M)
     begin = re.compile(r"^\{$|\) (-> [^{}\n]+ )?\{$", re.M).search(text, head.end()).end()
     body = text[begin : text.index("\n}\n", begin)]
-    everything = "".join(source.read_text() for source in (CRATES / crate).rglob("src/**/*.rt"))
+    source = everything(crate, "src/**/*.rt")
     constants = [(found[0], found[1]) for found in re.finditer(r"^const (\w+):.*?;$", text, re.M | re.S)]
-    return file, [body, *(said for said, constant in constants if uses(everything, constant) == uses(body, constant) + 1)]
+    return file, [body, *(said for said, constant in constants if uses(source, constant) == uses(body, constant) + 1)]
+
+
+def of_law(crate, law):
+    """The file of the law's statement, which has the law's name with a capital, and the statement, if no other definition uses it."""
+    file, name = law.split(".")
+    title = name[0].upper() + name[1:]
+    statement = re.search(r"^abbrev pub %s :.*?\n(?=\n|\Z)" % title, (CRATES / crate / "specs" / (file + ".antt")).read_text(), re.M | re.S)[0]
+    alone = uses(everything(crate, "specs/*.antt"), title) == uses(statement, title)
+    return "specs/%s.antt" % file, [statement] if alone else []
 
 
 def facts(log):
-    """The facts that the check found not to hold: for each the function whose proof needs it, or the file of laws."""
+    """The facts that the check found not to hold: of each, the function whose proof needs it, or the law as File.law."""
     for line in log:
         error, verdict = ERROR.match(line), VERDICT.match(line)
-        if error and not any(words in error[2] for words in FOLLOWS):
-            yield re.sub(r".*/(specs|proofs)/", "", error[1]).removesuffix("/Proof.antt").replace("/", "::")
+        if error and not any(words in error[3] for words in FOLLOWS):
+            place = re.sub(r".*/(specs|proofs)/", "", error[1])
+            yield place.removesuffix("/Proof").replace("/", "::") if place.endswith("/Proof") else "%s.%s" % (place, error[2])
         elif verdict and verdict[2].startswith("no proof: ") and "`search` does not close" in verdict[2]:
             yield verdict[1]
 
 
 def faults(crate, wrongs, log):
     """What is not as it has to be, of an edit's wrong answers and the log of its check."""
-    broken = {*facts(log)}
-    functions = [wrong.function for wrong in wrongs]
-    if functions == [None]:
+    broken, said = {*facts(log)}, []
+    owners = [wrong.whose for wrong in wrongs]
+    if owners == [None]:
         return [] if broken else ["%s: no fact is refused" % wrongs[0].name]
-    said = ["%s: another wrong answer is %s's" % (wrong.name, wrong.function) for wrong in wrongs if functions.count(wrong.function) > 1]
     for wrong in wrongs:
-        file, texts = own(crate, wrong.function)
-        others = [old for at, old in wrong.changes if at != file or not any(old in text for text in texts)]
-        said += ["%s: changes more than %s" % (wrong.name, wrong.function) for old in others]
-        if wrong.function not in broken:
-            said.append("%s: no fact of %s is refused" % (wrong.name, wrong.function))
+        file, texts = (of_law if "." in wrong.whose else of_function)(crate, wrong.whose)
+        if owners.count(wrong.whose) > 1:
+            said.append("%s: another wrong answer is %s's" % (wrong.name, wrong.whose))
+        if any(at != file or not any(old in text for text in texts) for at, old in wrong.changes):
+            said.append("%s: changes more than %s" % (wrong.name, wrong.whose))
+        if wrong.whose not in broken:
+            said.append("%s: no fact of %s is refused" % (wrong.name, wrong.whose))
     verdicts = [verdict.groups() for verdict in map(VERDICT.match, log) if verdict]
     apart = {name for name, verdict in verdicts if verdict != "proved" and "; it calls" not in verdict} | broken
-    return said + ["%s is refused too" % name for name in sorted(apart - {*functions})]
+    return said + ["%s is refused too" % name for name in sorted(apart - {*owners})]
 
 
-def without(log, function):
-    """The log as it would be if the function's wrong answer were taken for right."""
-    proof = "/proofs/%s/Proof.antt:" % function.replace("::", "/")
-    kept = [line for line in log if proof not in line.split(": error: ")[0]]
-    return [re.sub(r"^(fn \w+::%s: ).*" % function, r"\1proved", line) for line in kept]
+def without(log, whose):
+    """The log as it would be if that wrong answer were taken for right."""
+    file, _, law = whose.partition(".")
+    begin = r"\S*/proofs/%s\.antt:\S+ error: `%s`" % (file, law) if law else r"\S*/proofs/%s/Proof\.antt:" % whose.replace("::", "/")
+    kept = [line for line in log if not re.match(begin, line)]
+    return [re.sub(r"^(fn \w+::%s: ).*" % whose, r"\1proved", line) for line in kept]
 
 
 def main():
@@ -113,9 +129,9 @@ def main():
         log = (LOGS / crate / edit.stem / ".log").read_text().splitlines()
         said += ["%s/%s: %s" % (crate, edit.stem, fault) for fault in faults(crate, wrongs, log)]
         count += len(wrongs)
-        # The check's own check: one that slipped through, and one that spoils another function, would be noticed.
+        # The check's own check: one that slipped through, and one that spoils what is another's, would be noticed.
         for wrong in wrongs if len(wrongs) > 1 else []:
-            assert faults(crate, wrongs, without(log, wrong.function)), "%s/%s is not looked for" % (crate, wrong.name)
+            assert faults(crate, wrongs, without(log, wrong.whose)), "%s/%s is not looked for" % (crate, wrong.name)
             others = [other for other in wrongs if other is not wrong]
             assert faults(crate, others, log), "%s/%s is not seen to spoil others" % (crate, wrong.name)
     print("".join(fault + "\n" for fault in said) + "%d wrong answers in %d checks, %d faults" % (count, len(edits), len(said)))
