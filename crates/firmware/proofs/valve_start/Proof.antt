@@ -1,0 +1,14 @@
+-- The start's own equation.
+-- Assumes nothing.
+use borrow.Author.Needs.{needs}
+use Rattle.firmware.proofs.valve_start.Statement.{statement}
+use Rattle.firmware.proofs.valve_start.Tie as tie
+
+start-requires : tie.Need-start-requires
+start-requires c κs = search needs
+
+returns : tie.Need-returns
+returns c = c .start .ensures
+
+pub valve-start-spec : {M : Type 1} → statement M
+valve-start-spec = tie.close (tie.spec start-requires returns)
