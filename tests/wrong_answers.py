@@ -23,7 +23,7 @@ LOGS = ROOT / "target" / "must-fail"
 WRONG = re.compile(r"wrong: (\w+) by ([\w:.-]+)")
 VERDICT = re.compile(r"fn \w+?::([\w:]+): (.*)")
 ERROR = re.compile(r"(\S+)\.antt:\d+:\d+: error: `([^`]+)`: (.*)")
-FOLLOWS = ("was not admitted", "not in scope")  # of what is left over when something else was refused
+FOLLOWS = ("was not admitted", "not in scope", "has no field")  # no fact: of what is left over when something else was refused, or is gone
 
 
 class Wrong:

@@ -8,7 +8,7 @@ tick-requires : tie.Need-tick-requires
 tick-requires c κs = search needs
 
 returns : tie.Need-returns
-returns c = c .tick .ensures
+returns c = search needs
 
 pub valve-tick-spec : {M : Type 1} → statement M
 valve-tick-spec = tie.close (tie.spec tick-requires returns)
