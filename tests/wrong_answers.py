@@ -23,7 +23,7 @@ LOGS = ROOT / "target" / "must-fail"
 WRONG = re.compile(r"wrong: (\w+) by ([\w:.-]+)")
 VERDICT = re.compile(r"fn \w+?::([\w:]+): (.*)")
 ERROR = re.compile(r"(\S+)\.antt:\d+:\d+: error: `([^`]+)`: (.*)")
-FOLLOWS = ("was not admitted", "not in scope", "has no field")  # no fact: of what is left over when something else was refused, or is gone
+FOLLOWS = ("was not admitted", "not in scope", "has no field")  # what is left over when something else was refused, or is gone
 
 
 class Wrong:
@@ -85,10 +85,13 @@ def of_law(crate, law):
 
 
 def facts(log):
-    """The facts that the check found not to hold: of each, the function whose proof needs it, or the law as File.law."""
+    """The facts that the check found not to hold: of each, the function whose proof needs it, or the law as File.law.
+
+    What only puts a function's facts together, its `..-spec`, is none.
+    """
     for line in log:
         error, verdict = ERROR.match(line), VERDICT.match(line)
-        if error and not any(words in error[3] for words in FOLLOWS):
+        if error and not error[2].endswith("-spec") and not any(words in error[3] for words in FOLLOWS):
             place = re.sub(r".*/(specs|proofs)/", "", error[1])
             yield place.removesuffix("/Proof").replace("/", "::") if place.endswith("/Proof") else "%s.%s" % (place, error[2])
         elif verdict and verdict[2].startswith("no proof: ") and "`search` does not close" in verdict[2]:
