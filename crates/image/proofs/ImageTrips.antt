@@ -13,15 +13,15 @@ use borrow.Author.Tests.{ltb-true}
 use Rattle.little.specs.Little.{little, bytes, Bytes}
 use Rattle.little.proofs.ByteLaws.{bytes-length, read-back, bytes-from, bytes-to, little-below}
 use Rattle.numbers.specs.Choice.{every}
-use Rattle.dictionary.specs.Names.{Entry, entries, configured}
-use Rattle.dictionary.specs.Rows.{width, u8}
+use Rattle.dictionary.specs.Names.{Entry, entries, configured, index-at, sub-at}
+use Rattle.dictionary.specs.Rows.{width}
 use Rattle.dictionary.specs.declared.types.Range.{Range}
 use Rattle.roles.specs.Values.{range-of}
 use Rattle.entries.specs.Judge.{in-range, is-good}
 use Rattle.entries.specs.Valid.{Valid}
 use Rattle.entries.specs.declared.types.Verdict.{Verdict}
 use Rattle.entries.specs.declared.types.Verdict.the-variants.{Good, NotFinite, Above, Below, ChainUp, ChainDown}
-use Rattle.records.specs.Layout.{Listed, listed, size, records, image-of, entry, offset}
+use Rattle.records.specs.Layout.{Listed, listed, nothing, size, records, image-of, entry, offset}
 use Rattle.records.specs.Walk.{data-in, fits, values}
 use Rattle.records.proofs.RightLaws.{Right, All-right, Whole}
 use Rattle.records.proofs.SizeLaws.{listed-extent, image-length}
@@ -30,27 +30,41 @@ use Rattle.reading.proofs.Acceptance.{Accepted}
 use Rattle.reading.proofs.PlaceLaws.{counted, value-at, right-at}
 use Rattle.image.proofs.ChainTrips.{order-linked, linked-order, front-order}
 use Rattle.image.proofs.LoadLaws.{values-length}
-use Rattle.image.proofs.RecordTrips.{Fit, all-fit, records-right, values-back, records-back, records-front, bytes-back}
+use Rattle.image.proofs.RecordTrips.{Fit, all-fit, records-right, values-back, records-back, records-front, bytes-back, part-back}
 
 -- ---- the entry of a slot
 
 abbrev listing : Entry → Listed
 listing e = record { index = e .index; sub = e .sub; range = e .value .range }
 
-range-at : (n : ℕ) (l : List Entry) (k : ℕ) → k < n → entry (map listing (take n l)) k .range ≡ getD (map (λ (e : Entry). e .value .range) l) k (u8 0 0 0 .range)
+-- any part of it is that part of the table's own entry there
+part-at : {A : Type 0} (part : Listed → A) (n : ℕ) (l : List Entry) (k : ℕ) → k < n
+    → part (entry (map listing (take n l)) k) ≡ getD (map (λ (e : Entry). part (listing e)) l) k (part nothing)
 unfolding entry
-range-at zero l k h = absurd (not-suc-le-zero h)
-range-at (suc n) [] k h = refl
-range-at (suc n) (e ∷ l) zero h = refl
-range-at (suc n) (e ∷ l) (suc k) h = range-at n l k (le-of-suc-le-suc h)
+part-at part zero l k h = absurd (not-suc-le-zero h)
+part-at part (suc n) [] k h = refl
+part-at part (suc n) (e ∷ l) zero h = refl
+part-at part (suc n) (e ∷ l) (suc k) h = part-at part n l k (le-of-suc-le-suc h)
 
-entry-range : (slot : ℕ) → slot < configured → entry listed slot .range ≡ range-of slot
-unfolding listed range-of
-entry-range slot h = range-at configured entries slot h
+module _ (slot : ℕ) (h : slot < configured) where
+  entry-range : entry listed slot .range ≡ range-of slot
+  unfolding listed range-of
+  entry-range = part-at (λ e. e .range) configured entries slot h
+
+  pub entry-index : entry listed slot .index ≡ index-at slot
+  unfolding listed index-at
+  entry-index = part-at (λ e. e .index) configured entries slot h
+
+  pub entry-sub : entry listed slot .sub ≡ sub-at slot
+  unfolding listed sub-at
+  entry-sub = part-at (λ e. e .sub) configured entries slot h
 
 many : configured ≡ 611
 unfolding configured
 many = refl
+
+pub all-listed : length listed ≡ configured
+all-listed = counted ∙ sym many
 
 -- every name has room in a record, by computing
 small-name : Listed → Bool
@@ -72,7 +86,7 @@ module _ (unit : List ℕ) (valid : Valid unit) (long : configured ≤ length un
   fit-at : (slot : ℕ) → slot < length listed → Fit (entry listed slot) (getD unit slot 0)
   unfolding small-name size fits is-good
   fit-at slot h =
-      let inside : slot < configured = omega (arith, counted, many) in
+      let inside : slot < configured = omega (arith, all-listed) in
       let range = entry-range slot inside in
       let name = at-entry small-name listed names-small slot h in
       let both = and-eq-true-iff (ltb (entry listed slot .index) 65536) (ltb (entry listed slot .sub) 256) .0 name in
@@ -91,8 +105,8 @@ module _ (unit : List ℕ) (valid : Valid unit) (long : configured ≤ length un
   unfolding configuration-in
   configuration-back =
       ap (values listed) behind
-      ∙ values-back listed unit [] (all-fit listed unit fit-at) (omega (arith, counted, many))
-      ∙ ap (λ (n : ℕ). take n unit) (counted ∙ sym many)
+      ∙ values-back listed unit [] (all-fit listed unit fit-at) (omega (arith, all-listed))
+      ∙ ap (λ (n : ℕ). take n unit) all-listed
 
   whole-image : Whole (image-of unit)
   unfolding image-of
@@ -142,7 +156,17 @@ only-good ChainDown e = absurd (true≢false (sym e))
 module _ (image : List ℕ) (a : Accepted image) (b : Bytes image) where
   held-at : (slot : ℕ) → slot < configured → getD (configuration-in image) slot 0 ≡ data-in (size (entry listed slot)) (drop (offset listed slot) (drop 4 image))
   unfolding configuration-in
-  held-at slot h = value-at listed (drop 4 image) slot (omega (arith, counted, many))
+  held-at slot h = value-at listed (drop 4 image) slot (omega (arith, all-listed))
+
+  -- the bytes of a slot's data are those of its word
+  pub data-at : (slot : ℕ) → slot < configured
+      → take (size (entry listed slot)) (drop 7 (drop (offset listed slot) (drop 4 image))) ≡ bytes (size (entry listed slot)) (getD (configuration-in image) slot 0)
+  unfolding data-in
+  data-at slot h =
+      let right = right-at listed (drop 4 image) (a .walk .rights) slot (omega (arith, all-listed)) in
+      let room = right .room in
+      sym (ap (bytes (size (entry listed slot))) (held-at slot h)
+      ∙ part-back (size (entry listed slot)) 7 (drop (offset listed slot) (drop 4 image)) (bytes-from (offset listed slot) (drop 4 image) (bytes-from 4 image b)) room)
 
   below-size : (slot : ℕ) → slot < configured → getD (configuration-in image) slot 0 < 256 ^ width (entry listed slot .range .kind)
   unfolding data-in size
@@ -153,7 +177,7 @@ module _ (image : List ℕ) (a : Accepted image) (b : Bytes image) where
   in-its-range : (slot : ℕ) → slot < configured → in-range (entry listed slot .range) (getD (configuration-in image) slot 0) ≡ Good
   unfolding fits
   in-its-range slot h =
-      only-good _ (rw (held-at slot h) (right-at listed (drop 4 image) (a .walk .rights) slot (omega (arith, counted, many)) .fit))
+      only-good _ (rw (held-at slot h) (right-at listed (drop 4 image) (a .walk .rights) slot (omega (arith, all-listed)) .fit))
 
   pub configuration-valid : Valid (configuration-in image)
   configuration-valid =

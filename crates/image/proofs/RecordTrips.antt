@@ -69,7 +69,7 @@ bytes-back n l b h =
     ∙ ap (λ (m : ℕ). l ++ replicate m 0) (sub-self n) ∙ append-nil l
 
 -- so many bytes from a place on
-part-back : (n i : ℕ) (l : List ℕ) → Bytes l → i + n ≤ length l → bytes n (little (take n (drop i l))) ≡ take n (drop i l)
+pub part-back : (n i : ℕ) (l : List ℕ) → Bytes l → i + n ≤ length l → bytes n (little (take n (drop i l))) ≡ take n (drop i l)
 part-back n i l b h =
     let room = length-drop i l in
     bytes-back n (take n (drop i l)) (bytes-to n (drop i l) (bytes-from i l b)) (length-take-le n (drop i l) (omega arith))

@@ -31,18 +31,21 @@ module _ (left index sub : ℕ) (rest : List ℕ) {whole : List ℕ} (inv : whol
     data-cut k = sym (again ∙ rw (le-ltb (length rest) 7 h, ← s, lt-ltb (length rest) (7 + size) k))
 
     module _ (k : 7 + size ≤ length rest) {b : Bool} (n : b ≡ eqb (index-in rest) index && eqb (sub-in rest) sub) where
+      -- a record that is there has the name, or the search goes on behind it
+      pub there : whole ≡ first b (take size (drop 7 rest)) (looked (left - 1) index sub (drop (7 + size) rest))
+      unfolding first
+      there = again ∙ rw (le-ltb (length rest) 7 h, ← s, le-ltb (length rest) (7 + size) k, ← n)
+
       pub here : b ≡ true → take (7 + size - 7) (drop 7 rest) ≡ whole
       unfolding first
-      here t =
-          let same : 7 + size - 7 ≡ size = omega arith in
-          rw same (sym (again ∙ rw (le-ltb (length rest) 7 h, ← s, le-ltb (length rest) (7 + size) k, ← n, t)))
+      here t = let same : 7 + size - 7 ≡ size = omega arith in rw same (sym (there ∙ rw t))
 
       pub not-here : b ≡ false → whole ≡ looked (left - 1) index sub (onward (7 + size) rest)
       unfolding first
       not-here t =
           let room = length-drop (7 + size) rest in
           let part = take-all (length rest - (7 + size)) (drop (7 + size) rest) (omega arith) in
-          rw part (again ∙ rw (le-ltb (length rest) 7 h, ← s, le-ltb (length rest) (7 + size) k, ← n, t))
+          rw part (there ∙ rw t)
 
 pub nowhere : (left index sub : ℕ) (rest : List ℕ) {whole : List ℕ} → whole ≡ looked left index sub rest → left ≤ 0 → [] ≡ whole
 unfolding looked
@@ -52,10 +55,13 @@ pub no-count : (image : List ℕ) (index sub : ℕ) → length image < 4 → [] 
 unfolding look-up first
 no-count image index sub h = rw (lt-ltb (length image) 4 h)
 
+pub counted : (image : List ℕ) (index sub : ℕ) → 4 ≤ length image → look-up image index sub ≡ looked (little (take 4 image)) index sub (drop 4 image)
+unfolding look-up first
+counted image index sub h = rw (le-ltb (length image) 4 h)
+
 pub behind-count : (image : List ℕ) (index sub : ℕ) → 4 ≤ length image → {n : ℕ} → n ≡ little (take 4 image)
     → looked n index sub (onward 4 image) ≡ look-up image index sub
-unfolding look-up first
 behind-count image index sub h e =
     let room = length-drop 4 image in
     let part = take-all (length image - 4) (drop 4 image) (omega arith) in
-    rw (le-ltb (length image) 4 h, ← e, part)
+    rw (e, part) (sym (counted image index sub h))

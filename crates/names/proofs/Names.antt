@@ -78,3 +78,11 @@ each-found = refl
 -- every slot has a name, and by `names-apart` only one
 pub slot-named : (slot : ℕ) → slot < words → find (index-at slot) (sub-at slot) ≡ At slot
 slot-named = agree words (λ slot. find (index-at slot) (sub-at slot)) At NoIndex each-found
+
+-- so two slots never share a name
+pub slots-apart : (k slot : ℕ) → k < words → slot < words → index-at k ≡ index-at slot → sub-at k ≡ sub-at slot → k ≡ slot
+slots-apart k slot h l i s =
+    let one = slot-named k h in
+    let other = slot-named slot l in
+    let same : At k ≡ At slot = sym one ∙ rw (i, s) other in
+    cc

@@ -3,27 +3,31 @@
 use mathlib.Core.Path.{_≡_, refl, sym, ap, _∙_}
 use mathlib.Core.Bool.{Bool, true, false}
 use mathlib.Core.List.{List, [], _++_, append-nil}
-use Prim.Native.Nat.{ℕ, _≤_}
+use Prim.Native.Nat.{ℕ, _<_, _≤_}
 use native.Mathlib.Omega.{arith}
 use lib.Dec.{ltb}
 use lib.ListN.{length, take, drop}
 use lib.Seq.{take-at}
 use Rattle.numbers.specs.Choice.{first}
-use Rattle.dictionary.specs.Names.{configured}
+use Rattle.dictionary.specs.Names.{configured, words, index-at, sub-at}
+use Rattle.names.proofs.Names.{slots-apart}
 use Rattle.roles.specs.Values.{at-start}
-use Rattle.records.specs.Layout.{image-of}
+use Rattle.records.specs.Layout.{listed, entry, image-of}
 use Rattle.records.specs.declared.types.Outcome.{Outcome}
 use Rattle.records.specs.declared.types.Outcome.the-variants.{Good, Refused}
 use Rattle.records.specs.declared.types.Refusal.{Refusal}
 use Rattle.records.specs.declared.types.Refusal.the-variants.{NoRoom}
+use Rattle.lookup.specs.LookUp.{looked, look-up}
+use Rattle.lookup.proofs.FindLaws.{counted}
+use Rattle.lookup.proofs.EntryLaws.{Named, at-entry, no-entry}
 use Rattle.reading.specs.Reading.{reading, configuration-in}
-use Rattle.reading.proofs.Acceptance.{accepted, accepts, not-good}
+use Rattle.reading.proofs.Acceptance.{Accepted, accepted, accepts, not-good}
 use Rattle.writing.specs.Written.{Written, image-size}
 use Rattle.records.proofs.SizeLaws.{image-length}
 use Rattle.image.specs.Loaded.{loaded}
-use Rattle.image.proofs.ImageTrips.{configuration-back, image-accepted, bytes-again, configuration-valid}
+use Rattle.image.proofs.ImageTrips.{configuration-back, image-accepted, bytes-again, configuration-valid, all-listed, entry-index, entry-sub, data-at}
 use Rattle.promised_runs.specs.Running.{run}
-use Rattle.promised_images.specs.Images.{Saved-reads-back, Same-bytes-again, Accepts-exactly, One-configuration-each, Refusals-write-nothing}
+use Rattle.promised_images.specs.Images.{Saved-reads-back, Same-bytes-again, Accepts-exactly, One-configuration-each, Refusals-write-nothing, Looked-up-as-it-stands}
 use Rattle.promised_runs.proofs.Running.{sizes, always-sound}
 
 -- ---- what a contract leaves
@@ -48,6 +52,21 @@ module _ {words buffer buffer′ : List ℕ} {w : Outcome} (s : Written words bu
       go : (b : Bool) → first b (Refused NoRoom) Good ≡ Refused why → buffer′ ≡ first b buffer (image-of words ++ drop image-size buffer) → buffer′ ≡ buffer
       go true q h = h
       go false q h = absurd (not-good (sym q))
+
+-- ---- a name looked up
+
+in-words : {slot : ℕ} → slot < configured → slot < words
+unfolding configured words
+in-words h = omega arith
+
+-- an entry has its slot's name, and no other entry has it
+own-name : (slot : ℕ) → slot < configured → Named (index-at slot) (sub-at slot) (entry listed slot)
+own-name slot h = (entry-index slot h, entry-sub slot h)
+
+one-entry : (k slot : ℕ) → k < configured → slot < configured → Named (index-at slot) (sub-at slot) (entry listed k) → k ≡ slot
+one-entry k slot h l m =
+    let own = own-name k h in
+    slots-apart k slot (in-words h) (in-words l) (sym (own .0) ∙ m .0) (sym (own .1) ∙ m .1)
 
 -- ---- the promises
 
@@ -87,3 +106,23 @@ pub refusals-write-nothing : Refusals-write-nothing
 unfolding loaded
 refusals-write-nothing =
     (λ words buffer buffer′ why s. nothing-there s why refl, λ image unit unit′ why l. l .state ∙ ap (loaded image unit) (sym (l .answered)))
+
+pub looked-up-as-it-stands : Looked-up-as-it-stands
+looked-up-as-it-stands image b g = (
+  λ slot h.
+      start (index-at slot) (sub-at slot)
+      ∙ at-entry (index-at slot) (sub-at slot) listed (drop 4 image) (a .walk .rights) slot (omega (arith, all-listed)) (own-name slot h)
+      (λ k l m. let same = one-entry k slot (omega arith) h m in omega arith)
+      ∙ data-at image a b slot h,
+  λ index sub none.
+      start index sub
+      ∙ no-entry index sub listed (drop 4 image) (a .walk .rights)
+      (λ k l m. let h : k < configured = omega (arith, all-listed) in let own = own-name k h in none k h (sym (own .0) ∙ m .0, sym (own .1) ∙ m .1)),
+)
+  where
+    a : Accepted image
+    a = accepted image g
+
+    -- the count tells of as many records as there are entries
+    start : (index sub : ℕ) → look-up image index sub ≡ looked (length listed) index sub (drop 4 image)
+    start index sub = counted image index sub (a .walk .headed) ∙ ap (λ (n : ℕ). looked n index sub (drop 4 image)) (a .walk .counted ∙ sym all-listed)

@@ -1,17 +1,18 @@
 -- What is promised of images.
 -- Assumes nothing.
-use Prim.Native.Nat.{ℕ, _≤_}
+use Prim.Native.Nat.{ℕ, _<_, _≤_}
 use mathlib.Core.Path.{_≡_}
-use mathlib.Core.List.{List, _++_}
-use lib.ListN.{length, take, drop}
-use Rattle.little.specs.Little.{Bytes}
-use Rattle.dictionary.specs.Names.{configured}
+use mathlib.Core.List.{List, [], _++_}
+use lib.ListN.{length, getD, take, drop}
+use Rattle.little.specs.Little.{bytes, Bytes}
+use Rattle.dictionary.specs.Names.{configured, index-at, sub-at}
 use Rattle.roles.specs.Values.{at-start}
 use Rattle.entries.specs.Valid.{Valid}
-use Rattle.records.specs.Layout.{image-of}
+use Rattle.records.specs.Layout.{listed, size, entry, image-of}
 use Rattle.records.specs.declared.types.Outcome.{Outcome}
 use Rattle.records.specs.declared.types.Outcome.the-variants.{Good, Refused}
 use Rattle.records.specs.declared.types.Refusal.{Refusal}
+use Rattle.lookup.specs.LookUp.{look-up}
 use Rattle.reading.specs.Reading.{reading, configuration-in}
 use Rattle.writing.specs.Written.{Written, image-size}
 use Rattle.image.specs.Loaded.{Loaded}
@@ -48,3 +49,10 @@ abbrev pub Refusals-write-nothing : Type 0
 Refusals-write-nothing =
     ((words buffer buffer′ : List ℕ) (why : Refusal) → Written words buffer buffer′ (Refused why) → buffer′ ≡ buffer)
     × ((image unit unit′ : List ℕ) (why : Refusal) → Loaded image unit unit′ (Refused why) → unit′ ≡ unit)
+
+-- "The bytes of one record's value are handed on as they stand in the image": for an entry's name those of its word, for any other name none
+abbrev pub Looked-up-as-it-stands : Type 0
+Looked-up-as-it-stands =
+    (image : List ℕ) → Bytes image → reading image ≡ Good
+    → ((slot : ℕ) → slot < configured → look-up image (index-at slot) (sub-at slot) ≡ bytes (size (entry listed slot)) (getD (configuration-in image) slot 0))
+    × ((index sub : ℕ) → ((slot : ℕ) → slot < configured → (index-at slot ≡ index) × (sub-at slot ≡ sub) → ⊥) → look-up image index sub ≡ [])

@@ -34,6 +34,7 @@ demand-2 =
       saved-reads-back = Images.saved-reads-back;
       same-bytes-again = Images.same-bytes-again;
       one-configuration-each = Images.one-configuration-each;
+      looked-up-as-it-stands = Images.looked-up-as-it-stands;
     }
 
 pub demand-3 : Demand-3

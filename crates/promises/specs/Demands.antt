@@ -2,7 +2,7 @@
 -- Assumes nothing.
 use Rattle.output.specs.Commanded.{Some-rule, Rules-1-to-6, Rule-7}
 use Rattle.promises.specs.Bench.{On-the-bench}
-use Rattle.promised_images.specs.Images.{Saved-reads-back, Same-bytes-again, Accepts-exactly, One-configuration-each, Refusals-write-nothing}
+use Rattle.promised_images.specs.Images.{Saved-reads-back, Same-bytes-again, Accepts-exactly, One-configuration-each, Refusals-write-nothing, Looked-up-as-it-stands}
 use Rattle.promised_lists.specs.Restoring.{Always-fits, Each-accepted, Arrives, Cut-anywhere, Count-is-difference, Shortest, Turned-away-exactly, Refused-lists-write-nothing, One-list}
 use Rattle.promised_runs.specs.Running.{Only-the-fold, Always-sound}
 use Rattle.promised_frames.specs.Serving.{Untouched, Determined, Reads-back, Stays-valid, Decided-by-configuration}
@@ -45,6 +45,8 @@ pub record Demand-2 : Type 0 where
   pub same-bytes-again : Same-bytes-again
   -- so no image stands for two configurations
   pub one-configuration-each : One-configuration-each
+  -- "The bytes of one record's value are handed on as they stand in the image"
+  pub looked-up-as-it-stands : Looked-up-as-it-stands
 
 -- "For any two complete images in range and in order, and a buffer of 5,207 bytes"
 pub record Demand-3 : Type 0 where
