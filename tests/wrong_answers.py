@@ -23,7 +23,8 @@ LOGS = ROOT / "target" / "must-fail"
 WRONG = re.compile(r"wrong: (\w+) by ([\w:.-]+)")
 VERDICT = re.compile(r"fn \w+?::([\w:]+): (.*)")
 ERROR = re.compile(r"(\S+)\.antt:\d+:\d+: error: `([^`]+)`: (.*)")
-FOLLOWS = ("was not admitted", "not in scope", "has no field")  # what is left over when something else was refused, or is gone
+# What is no fact: what is left over when something else was refused, or names a thing that is gone.
+FOLLOWS = ("was not admitted", "not in scope", "has no field", "can be named from here")
 
 
 class Wrong:
@@ -129,7 +130,9 @@ def main():
     said, count, edits = [], 0, sorted(CRATES.glob("*/must-fail/*.edit"))
     for edit in edits:
         crate, wrongs = edit.parts[-3], wrong_answers(edit)
-        log = (LOGS / crate / edit.stem / ".log").read_text().splitlines()
+        file = LOGS / crate / edit.stem / ".log"
+        assert file.exists(), "no log of %s/%s: run rt ci first" % (crate, edit.stem)
+        log = file.read_text().splitlines()
         said += ["%s/%s: %s" % (crate, edit.stem, fault) for fault in faults(crate, wrongs, log)]
         count += len(wrongs)
         # The check's own check: one that slipped through, and one that spoils what is another's, would be noticed.
