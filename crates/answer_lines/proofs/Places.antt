@@ -11,7 +11,8 @@ use lib.ListN.{length, length-append, set}
 use lib.Seq.{sets}
 use Rattle.numbers.specs.Choice.{first}
 use Rattle.answers.specs.Printing.{width, lastDigits, digits, decimal}
-use Rattle.answers.proofs.Stores.{sets-append, sets-past}
+use Rattle.little.proofs.Parts.{sets-append}
+use Rattle.answers.proofs.Stores.{sets-past}
 
 pub length-last : (w n : ℕ) → length (lastDigits w n) ≡ w
 unfolding lastDigits
@@ -40,7 +41,7 @@ last-place l start zero m h = absurd (omega arith)
 last-place l start (suc w) m h =
     let less : suc w - 1 ≡ w = omega arith in
     let long : length (lastDigits w (m / 10)) ≡ w = length-last w (m / 10) in
-    rw (less, sets-past l start (lastDigits w (m / 10)) (start + w) (0x30 + m % 10) (omega arith), sets-append l start (lastDigits w (m / 10)), long)
+    rw (less, sets-past l start (lastDigits w (m / 10)) (start + w) (0x30 + m % 10) (omega arith), sets-append (lastDigits w (m / 10)), long)
 
 pub no-place : (l : List ℕ) (start left m : ℕ) → left ≤ 0 → sets l start (lastDigits left m) ≡ l
 unfolding lastDigits

@@ -5,7 +5,6 @@ ghost use Rattle.answers.specs.Printing.{Printed, replyLine, tickLine};
 use crate::put::put_command;
 use crate::put::put_hex;
 use crate::put::put_register;
-use crate::put::put_text;
 
 // A reply shorter than eight bytes prints nothing.
 pub fn show_reply(reply: &[u8], out: &mut [u8; 64]) -> usize
@@ -19,13 +18,15 @@ pub fn show_reply(reply: &[u8], out: &mut [u8; 64]) -> usize
         put_hex(reply[k], 2 * k, out);
         k += 1;
     }
-    put_text(b"\n", 16, out)
+    out[16] = b'\n';
+    17
 }
 
 pub fn show_tick(commands: [i16; 4], register: u8, out: &mut [u8; 64]) -> usize
     ensures { λ r. ⌜ Printed (tickLine commands register) (now (out .entry)) (now (out .exit)) r ⌝ }
 {
-    let mut at = put_text(b"O", 0, out);
+    out[0] = b'O';
+    let mut at: usize = 1;
     let mut k: usize = 0;
     while k < 4 {
         at = put_command(commands[k], at, out);

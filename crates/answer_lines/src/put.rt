@@ -6,18 +6,6 @@ ghost use lib.ListN.{length};
 ghost use Rattle.answers.specs.Printing.{hexDigit, hex2, width, digits, decimal};
 ghost use Rattle.answers.specs.Put.{Put};
 
-pub fn put_text(text: &[u8], at: usize, out: &mut [u8]) -> usize
-    requires { ⌜ at + length (now text) ≤ length (now out) ⌝ }
-    ensures { λ r. ⌜ Put (now (out .entry)) at (now (text .entry)) (now (out .exit)) r ⌝ }
-{
-    let mut i: usize = 0;
-    while i < text.len() {
-        out[at + i] = text[i];
-        i += 1;
-    }
-    at + i
-}
-
 fn hex_digit(n: u8) -> u8
     requires { ⌜ n < 16 ⌝ }
     ensures { λ r. ⌜ r ≡ hexDigit n ⌝ }

@@ -1,21 +1,15 @@
 -- Runs of stores into a buffer, one after the other.
 -- Assumes nothing.
-use Prim.Native.Nat.{ℕ, suc, _+_, _<_, _≤_}
+use Prim.Native.Nat.{ℕ, suc, _+_, _≤_}
 use mathlib.Core.List.{List, [], _∷_, _++_}
 use mathlib.Core.Path.{_≡_, refl, sym, _∙_}
 use native.Mathlib.Omega.{arith}
-use native.Mathlib.Nat.{add-zero, zero-add}
-use native.Mathlib.Numerals.{add-one}
-use lib.ListN.{length, take, getD, set, length-append}
-use lib.Seq.{sets, sets-eq, set-comm, take-suc, length-take-le}
+use native.Mathlib.Nat.{zero-add}
+use lib.ListN.{length, set, length-append}
+use lib.Seq.{sets, sets-eq, set-comm}
+use Rattle.little.proofs.Parts.{sets-append}
 use Rattle.answers.specs.Printing.{Printed}
 use Rattle.answers.specs.Put.{Put}
-
-pub sets-append : (l : List ℕ) (i : ℕ) (vs ws : List ℕ) → sets l i (vs ++ ws) ≡ sets (sets l i vs) (i + length vs) ws
-sets-append l i [] ws = rw (add-zero i)
-sets-append l i (a ∷ vs) ws =
-    let k : i + suc (length vs) ≡ suc i + length vs = omega arith in
-    rw k (sets-append (set l i a) (suc i) vs ws)
 
 -- a store past a run comes before it or after it
 pub sets-past : (l : List ℕ) (i : ℕ) (vs : List ℕ) (k d : ℕ) → i + length vs ≤ k → sets (set l k d) i vs ≡ set (sets l i vs) k d
@@ -23,17 +17,11 @@ sets-past l i [] k d h = refl
 sets-past l i (a ∷ vs) k d h =
     rw (set-comm l k i d a (λ e. omega arith)) (sets-past (set l i a) (suc i) vs k d (omega arith))
 
--- one element more of a text that is copied
-pub sets-next : (l : List ℕ) (start : ℕ) (text : List ℕ) (i : ℕ) → i < length text
-    → set (sets l start (take i text)) (start + i) (getD text i 0) ≡ sets l start (take (i + 1) text)
-sets-next l start text i h =
-    rw (add-one, take-suc text i 0 h, sets-append l start (take i text), length-take-le i text (omega arith))
-
 -- ---- bytes put after bytes, and an answer put at the buffer's start
 pub join : {before : List ℕ} {start : ℕ} {bytes after : List ℕ} {next : ℕ} {more last : List ℕ} {end : ℕ} → Put before start bytes after next → Put after next more last end
     → Put before start (bytes ++ more) last end
 join {before} {start} {bytes} {after} {next} {more} p q = record {
-  stored = q .stored ∙ rw (p .stored, p .place) (sym (sets-append before start bytes more));
+  stored = q .stored ∙ rw (p .stored, p .place) (sym (sets-append bytes more before start));
   place = q .place ∙ rw (p .place) (omega (arith, length-append bytes more));
 }
 

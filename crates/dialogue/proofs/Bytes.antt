@@ -11,7 +11,7 @@ use lib.Dec.{leb, ltb, eqb}
 use lib.ListN.{length, take, drop, set, length-append, length-take, take-append-drop}
 use lib.Seq.{sets, length-sets, length-take-le, sets-eq, set-out, take-all, take-append-le, take-take}
 use Rattle.numbers.specs.Choice.{first}
-use Rattle.answers.proofs.Stores.{sets-append}
+use Rattle.little.proofs.Parts.{sets-append}
 use Rattle.printer.specs.Answering.{Said, said, unheard}
 use Rattle.dialogue.specs.Dialogue.{Cut, joined, cut, told, next, answered, Kept, goes-on, prints, over, after}
 use Rattle.dialogue.specs.Byte.{ending, step, speaks}
@@ -58,7 +58,7 @@ front line bytes h = by (leb (length line) 65) refl where
       let m : min (length line) 65 ≡ 65 = omega arith in
       let long : length (take 65 line) ≡ 65 = length-take-le 65 line (omega arith) in
       let cut-off : sets bytes 0 line ≡ sets bytes 0 (take 65 line) =
-      ap (sets bytes 0) (sym (take-append-drop 65 line)) ∙ sets-append bytes 0 (take 65 line) (drop 65 line)
+      ap (sets bytes 0) (sym (take-append-drop 65 line)) ∙ sets-append (take 65 line) (drop 65 line) bytes 0
       ∙ sets-out (drop 65 line) (sets bytes 0 (take 65 line)) (0 + length (take 65 line)) (omega (arith, length-sets bytes 0 (take 65 line), zero-add (length (take 65 line)))) in
       let whole = fits (take 65 line) (omega arith) in
       rw (m, cut-off) (ap (λ (n : ℕ). take n (sets bytes 0 (take 65 line))) (sym long) ∙ whole)
@@ -95,7 +95,7 @@ module _ (k : Kept) (h : length (k .line) ≡ 65) (c : Cut) where
   joins : (b : ℕ) → sets (foldl over (k .line) (c .finished)) 0 (c .unfinished ++ b ∷ [])
       ≡ set (sets (foldl over (k .line) (c .finished)) 0 (c .unfinished)) (length (c .unfinished)) b
   joins b =
-      sets-append (foldl over (k .line) (c .finished)) 0 (c .unfinished) (b ∷ [])
+      sets-append (c .unfinished) (b ∷ []) (foldl over (k .line) (c .finished)) 0
       ∙ ap (λ (n : ℕ). set (sets (foldl over (k .line) (c .finished)) 0 (c .unfinished)) n b) (zero-add (length (c .unfinished)))
 
   kept-next : (b : ℕ) → kept-by k (joined c b) ≡ step (kept-by k c) b

@@ -12,7 +12,7 @@ use lib.ListN.{length, take, drop, set, getD, length-append, length-take, take-a
 use lib.Seq.{sets, sets-eq, length-sets, take-suc, take-all, getD-take, length-take-le, drop-length}
 use Rattle.numbers.specs.Choice.{first}
 use Rattle.answers.specs.Printing.{Printed}
-use Rattle.answers.proofs.Stores.{sets-append}
+use Rattle.little.proofs.Parts.{sets-append}
 use Rattle.dialogue.specs.Dialogue.{cut, answered, Kept, goes-on, prints, over, after, taken, Hears}
 use Rattle.dialogue.specs.Byte.{ending, Finished, step, speaks, Taken}
 use Rattle.dialogue.proofs.Bytes.{after-next, prints-next}
@@ -100,7 +100,7 @@ module _ {k : Kept} {piece room₀ : List ℕ} {i : ℕ} {k′ : Kept} {room : L
         wide = a .wide;
         within = omega arith;
         kept = t .kept ∙ ap (λ (x : Kept). step x b) now ∙ sym (ap (after k) more ∙ after-next k (a .wide) p b);
-        stored = t .stored ∙ rw (a .stored, a .count, whole, sets-append room₀ 0 (prints k p) (speaks k′ b), zero-add (length (prints k p)));
+        stored = t .stored ∙ rw (a .stored, a .count, whole, sets-append (prints k p) (speaks k′ b) room₀ 0, zero-add (length (prints k p)));
         count = t .count ∙ rw (a .count, whole) (omega (arith, length-append (prints k p) (speaks k′ b)));
         few = let c = t .count in let s = t .short in let f = a .few in omega arith;
       }

@@ -2,7 +2,6 @@
 ghost use mathlib.Core.Path.{_≡_};
 ghost use Prim.Native.Nat.{_+_, _≤_};
 ghost use lib.ListN.{length};
-ghost use lib.Seq.{sets};
 ghost use Rattle.printer.specs.Answering.{Answers};
 ghost use Rattle.dialogue.specs.Dialogue.{Kept};
 ghost use Rattle.dialogue.specs.Byte.{Taken, Finished, ending};
@@ -11,6 +10,7 @@ use crate::LINE;
 use answers::printing::show_unknown;
 use dictionary::slots::Unit;
 use printer::answering::answer;
+use putting::put;
 
 // What answers a line that has come to its end.
 pub fn respond(unit: &mut Unit, line: &[u8], held: usize, text: &mut [u8; 64]) -> usize
@@ -21,18 +21,6 @@ pub fn respond(unit: &mut Unit, line: &[u8], held: usize, text: &mut [u8; 64]) -
         return show_unknown(text);
     }
     answer(unit, &line[..held], text)
-}
-
-// An answer behind those that are there.
-fn put(room: &mut [u8], at: usize, text: &[u8])
-    requires { ⌜ at + length (now text) ≤ length (now room) ⌝ }
-    ensures { λ _. ⌜ now (room .exit) ≡ sets (now (room .entry)) at (now (text .entry)) ⌝ }
-{
-    let mut k: usize = 0;
-    while k < text.len() {
-        room[at + k] = text[k];
-        k += 1;
-    }
 }
 
 // The line has come to its end: its answer goes behind those that are there.

@@ -1,9 +1,8 @@
--- Bytes copied one after the other, and records one after the other.
+-- Records copied one after the other.
 -- Assumes nothing.
 use mathlib.Core.Path.{_≡_, refl, sym, ap, _∙_}
 use mathlib.Core.List.{List, [], _∷_, _++_, flatMap}
 use Prim.Native.Nat.{ℕ, suc, _+_, _-_, _<_, _≤_}
-use native.Mathlib.Nat.{add-zero}
 use native.Mathlib.Omega.{arith}
 use lib.ListN.{length, getD, set, take, drop, length-append, length-drop, drop-of-length-le}
 use lib.Seq.{sets, drop-cons, drop-drop, take-add, length-take-le, length-sets}
@@ -14,21 +13,6 @@ use Rattle.records.specs.Walk.{size-in}
 use Rattle.changes.specs.Noting.{Stands, record-from}
 use Rattle.changes.proofs.ComparingLaws.{first-tells}
 use Rattle.lists.specs.Copying.{Standing}
-
--- ---- one byte more
-
-pub byte-first : (list part : List ℕ) (at : ℕ) → sets list (at + 0) (drop 0 part) ≡ sets list at part
-byte-first list part at = ap (λ (i : ℕ). sets list i part) (add-zero at)
-
-pub byte-next : (list part : List ℕ) (at k : ℕ) → k < length part
-    → sets (set list (at + k) (getD part k 0)) (at + (k + 1)) (drop (k + 1) part) ≡ sets list (at + k) (drop k part)
-byte-next list part at k h =
-    let next : at + (k + 1) ≡ suc (at + k) = omega arith in
-    let one : k + 1 ≡ suc k = omega arith in
-    sym (ap (sets list (at + k)) (drop-cons part k 0 h) ∙ rw (next, one))
-
-pub byte-last : (list part : List ℕ) (at k : ℕ) → length part ≤ k → list ≡ sets list (at + k) (drop k part)
-byte-last list part at k h = rw (drop-of-length-le part h)
 
 -- ---- one record more
 
@@ -128,15 +112,9 @@ module _ (wanted : List ℕ) (place : ℕ) (s : Stands wanted place) {end : ℕ}
       let sum : 7 + size-in (drop place wanted) ≡ 8 + (end - (place + 8)) = omega (arith, end-told) in
       ap (λ (n : ℕ). take n (drop place wanted)) sum ∙ take-add 8 (end - (place + 8)) (drop place wanted) ∙ rw (drop-drop 8 place wanted)
 
-  rest-long : length (take (end - (place + 8)) (drop (place + 8) wanted)) ≡ end - (place + 8)
-  rest-long = length-take-le (end - (place + 8)) (drop (place + 8) wanted) (omega (arith, inside .0, inside .1, length-drop (place + 8) wanted))
-
   module _ (list : List ℕ) (at : ℕ) {list′ : List ℕ} (p : list′ ≡ sets list at (take 8 (drop place wanted))) where
     pub kept-long : length list′ ≡ length list
     kept-long = ap length p ∙ length-sets list at (take 8 (drop place wanted))
-
-    pub rest-room : at + length (record-from wanted place) ≤ length list → at + 8 + length (take (end - (place + 8)) (drop (place + 8) wanted)) ≤ length list′
-    rest-room h = let rest = rest-long in let long = record-long in let same = kept-long in omega (arith, inside .0)
 
     pub record-put : {list″ : List ℕ} → list″ ≡ sets list′ (at + 8) (take (end - (place + 8)) (drop (place + 8) wanted)) → list″ ≡ sets list at (record-from wanted place)
     record-put q =

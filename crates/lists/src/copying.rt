@@ -7,18 +7,7 @@ ghost use lib.Seq.{sets};
 ghost use Rattle.little.specs.Little.{bytes};
 ghost use Rattle.changes.specs.Noting.{Stands, record-from};
 ghost use Rattle.lists.specs.Copying.{Standing};
-
-// Some bytes, one after the other.
-fn put(list: &mut [u8], at: usize, part: &[u8])
-    requires { ⌜ at + length (now part) ≤ length (now list) ⌝ }
-    ensures { λ _. ⌜ now (list .exit) ≡ sets (now (list .entry)) at (now (part .entry)) ⌝ }
-{
-    let mut k: usize = 0;
-    while k < part.len() {
-        list[at + k] = part[k];
-        k += 1;
-    }
-}
+use putting::put;
 
 // Four bytes: all are read before one is written, so that they can go as one word.
 fn put_four(list: &mut [u8], at: usize, wanted: &[u8], place: usize)

@@ -20,11 +20,7 @@ slice-aggregate-put : tie.Need-slice-aggregate-put
 slice-aggregate-put c = let r = c .before .before .respond in sym (length-take-le (r .result) (r .last .1 .1 .1 .0) (inside (r .ensures .print)))
 
 put-requires : tie.Need-put-requires
-put-requires c κs =
-    let r = c .before .before .respond in
-    let a = c .before .before .before .before .before .before .before .args in
-    let most = ending-most (record { unit = a .unit .now; line = a .line .now; held = a .held }) in
-    omega (arith, r .ensures .print .counted, most, length-take-le (r .result) (r .last .1 .1 .1 .0) (inside (r .ensures .print)))
+put-requires c κs = search needs
 
 add-result : tie.Need-add-result
 add-result c =

@@ -3,7 +3,7 @@
 use mathlib.Core.Path.{_≡_, refl, sym, ap, _∙_}
 use native.Mathlib.Omega.{arith}
 use Prim.Native.Nat.{ℕ, _+_, _-_}
-use Rattle.lists.proofs.CopyingLaws.{inside, record-long, kept-long, rest-room, record-put, ninth-put}
+use Rattle.lists.proofs.CopyingLaws.{inside, record-long, kept-long, record-put, ninth-put}
 use borrow.Author.Needs.{needs}
 use Rattle.lists.proofs.copying.copy_record.Statement.{statement}
 use Rattle.lists.proofs.copying.copy_record.Tie as tie
@@ -106,9 +106,7 @@ part-put-end c =
     omega (arith, w .0, w .1)
 
 put-requires : tie.Need-put-requires
-put-requires c κs =
-    let s = c .before .before .before .before .before .before .before .before .before .before in
-    rest-room (s .args .wanted .now) (s .args .place) (s .pre .0) refl (s .args .list .now) (s .args .at) (c .before .before .before .before .before .put-eight .ensures) (s .pre .1)
+put-requires c κs = search needs
 
 sub-result : tie.Need-sub-result
 sub-result c = search needs
