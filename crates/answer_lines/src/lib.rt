@@ -5,6 +5,7 @@ ghost use Rattle.answers.specs.Printing.{Printed, replyLine, tickLine};
 use crate::put::put_command;
 use crate::put::put_hex;
 use crate::put::put_register;
+use putting::put;
 
 // A reply shorter than eight bytes prints nothing.
 pub fn show_reply(reply: &[u8], out: &mut [u8; 64]) -> usize
@@ -18,14 +19,14 @@ pub fn show_reply(reply: &[u8], out: &mut [u8; 64]) -> usize
         put_hex(reply[k], 2 * k, out);
         k += 1;
     }
-    out[16] = b'\n';
+    put(out, 16, b"\n");
     17
 }
 
 pub fn show_tick(commands: [i16; 4], register: u8, out: &mut [u8; 64]) -> usize
     ensures { λ r. ⌜ Printed (tickLine commands register) (now (out .entry)) (now (out .exit)) r ⌝ }
 {
-    out[0] = b'O';
+    put(out, 0, b"O");
     let mut at: usize = 1;
     let mut k: usize = 0;
     while k < 4 {

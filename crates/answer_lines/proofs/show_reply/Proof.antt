@@ -4,7 +4,6 @@ use Prim.Native.Nat.{_≤_, _-_, _*_}
 use mathlib.Core.List.{[], _∷_}
 use mathlib.Core.Path.{_≡_, refl, ap}
 use native.Mathlib.Omega.{arith}
-use borrow.Author.Needs.{needs}
 use lib.ListN.{length, take}
 use lib.Seq.{length-sets}
 use Rattle.answers.specs.Printing.{hex2, each}
@@ -14,19 +13,18 @@ use Rattle.answers.proofs.Stores.{join, printed}
 use Rattle.answer_lines.proofs.show_reply.Statement.{statement}
 use Rattle.answer_lines.proofs.show_reply.Tie as tie
 
--- Each turn sees that the buffer has 64 places: after the last one it is known.
 abbrev Inv-loop : tie.InvT-loop
-Inv-loop reply out₀ k₀ out k = (k ≤ 8) × Put out₀ 0 (each hex2 (take k reply)) out (2 * k) × (8 * k ≤ length out₀)
+Inv-loop reply out₀ k₀ t4 out k = (k ≤ 8) × Put out₀ 0 (each hex2 (take k reply)) out (2 * k)
 
 abbrev μ-loop : tie.MeasureT-loop
-μ-loop reply out₀ k₀ out k = 8 - k
+μ-loop reply out₀ k₀ t4 out k = 8 - k
 
 returns : tie.Need-returns Inv-loop μ-loop
 returns c = rw (reply-short (c .before .before .args .reply .now) (c .if1 .taken)) (record { counted = refl; bytes = refl })
 
 loop-holds : tie.Need-loop-holds Inv-loop μ-loop
 unfolding each
-loop-holds c = (omega arith, record { stored = refl; place = refl }, omega arith)
+loop-holds c = (omega arith, record { stored = refl; place = refl })
 
 shared-slice-read-put-hex : tie.Need-shared-slice-read-put-hex Inv-loop μ-loop
 shared-slice-read-put-hex c = omega arith
@@ -48,23 +46,25 @@ unfolding hex2
 loop-again c =
     let m = c .before .before .before .before .loop in
     let r = c .before .before .before .before .before .before .before .args .reply .now in
-    let o = c .before .before .before .before .before .before .before .args .out .now in
     let e = c .put-hex .ensures in (
       omega arith,
       rw (each-next hex2 r (m .k) 0 (omega arith)) (join (m .inv .1) (record { stored = e .stored; place = omega arith })),
-      omega (arith, ap length (m .inv .1 .stored), length-sets o 0 (each hex2 (take (m .k) r))),
     )
 
-element-write-out : tie.Need-element-write-out Inv-loop μ-loop
-element-write-out c = search needs
+slice-aggregate-put : tie.Need-slice-aggregate-put Inv-loop μ-loop
+slice-aggregate-put c = refl
+
+put-requires : tie.Need-put-requires Inv-loop μ-loop
+put-requires c κs = omega arith
 
 returns-2 : tie.Need-returns-2 Inv-loop μ-loop
 returns-2 c =
-    let m = c .before .loop in
-    let s = c .before .before .before .before .args in
+    let m = c .before .before .before .before .loop in
+    let s = c .before .before .before .before .before .before .before .args in
     let k : m .k ≡ 8 = omega arith in
-    let g = join {more = 0x0A ∷ []} (rw k at (m .inv .1)) (record { stored = refl; place = refl }) in
-    rw (reply-long (s .reply .now) (omega arith)) (printed g (omega (arith, g .place)))
+    let g = join {more = 0x0A ∷ []} (rw k at (m .inv .1)) (record { stored = c .put .ensures; place = refl }) in
+    let long = length-sets (s .out .now) 0 (each hex2 (take (m .k) (s .reply .now))) in
+    rw (reply-long (s .reply .now) (omega arith)) (printed g (omega (arith, g .place, ap length (m .inv .1 .stored), long)))
 
 pub show-reply-spec : {M : Type 1} → statement M
 show-reply-spec =
@@ -80,5 +80,6 @@ show-reply-spec =
     add-k
     loop-less
     loop-again
-    element-write-out
+    slice-aggregate-put
+    put-requires
     returns-2)

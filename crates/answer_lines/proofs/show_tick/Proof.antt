@@ -2,12 +2,12 @@
 -- Assumes nothing.
 use Prim.Native.Nat.{_≤_, _+_, _-_, _*_}
 use mathlib.Core.List.{[], _∷_}
-use mathlib.Core.Path.{_≡_, refl, ap, _∙_}
+use mathlib.Core.Path.{refl}
 use native.Mathlib.Omega.{arith}
 use borrow.Author.Needs.{needs, sfits-of}
 use lib.IntN.{pos}
-use lib.ListN.{length, take, getD, length-set}
-use lib.Seq.{take-all, length-sets}
+use lib.ListN.{take, getD}
+use lib.Seq.{take-all}
 use mir.Facts.{toZ-ofZ}
 use Rattle.answers.specs.Printing.{hex2, each}
 use Rattle.answers.specs.Put.{Put}
@@ -23,8 +23,11 @@ Inv-loop register out₀ commands at₀ k₀ out at k = (k ≤ 4) × ((at ≤ 1 
 abbrev μ-loop : tie.MeasureT-loop
 μ-loop register out₀ commands at₀ k₀ out at k = 4 - k
 
-element-write-out : tie.Need-element-write-out Inv-loop μ-loop
-element-write-out c = search needs
+slice-aggregate-put : tie.Need-slice-aggregate-put Inv-loop μ-loop
+slice-aggregate-put c = search needs
+
+put-requires : tie.Need-put-requires Inv-loop μ-loop
+put-requires c κs = search needs
 
 loop-holds : tie.Need-loop-holds Inv-loop μ-loop
 unfolding each
@@ -49,7 +52,7 @@ loop-again : tie.Need-loop-again Inv-loop μ-loop
 unfolding commandPut
 loop-again c =
     let m = c .before .before .before .before .loop in
-    let s = c .before .before .before .before .before .args in
+    let s = c .before .before .before .before .before .before .before .before .args in
     let e = rw (toZ-ofZ (sfits-of (c .before .before .put-command-arg .given))) at (c .put-command .ensures) in (
       omega arith,
       (
@@ -65,11 +68,10 @@ returns : tie.Need-returns Inv-loop μ-loop
 unfolding hex2
 returns c =
     let m = c .before .before .before .loop in
-    let s = c .before .before .before .before .args in
+    let s = c .before .before .before .before .before .before .before .args in
     let all = take-all (m .k) (s .t1) (omega arith) in
-    let long : length (m .out) ≡ length (s .out .now) = ap length (m .inv .1 .1 .stored) ∙ simp (length-sets, length-set) in
-    let g = join (join {bytes = 0x4F ∷ []} (record { stored = refl; place = refl }) (rw all at (m .inv .1 .1))) (c .put-register .ensures) in
-    rw (tick-put (s .t1) (s .register)) (printed g (omega (arith, g .place, c .put-register .ensures .place, long)))
+    let g = join (join {bytes = 0x4F ∷ []} (record { stored = c .before .before .before .before .put .ensures; place = refl }) (rw all at (m .inv .1 .1))) (c .put-register .ensures) in
+    rw (tick-put (s .t1) (s .register)) (printed g (omega (arith, g .place, c .put-register .ensures .place)))
 
 pub show-tick-spec : {M : Type 1} → statement M
 show-tick-spec =
@@ -77,7 +79,8 @@ show-tick-spec =
     (tie.spec
     Inv-loop
     μ-loop
-    element-write-out
+    slice-aggregate-put
+    put-requires
     loop-holds
     mul-put-command
     array-copy-out-put-command
