@@ -77,12 +77,21 @@ def of_function(crate, function):
 
 
 def of_law(crate, law):
-    """The file of the law's statement, which has the law's name with a capital, and the statement, if no other definition uses it."""
-    file, name = law.split(".")
-    title = name[0].upper() + name[1:]
-    statement = re.search(r"^abbrev pub %s :.*?\n(?=\n|\Z)" % title, (CRATES / crate / "specs" / (file + ".antt")).read_text(), re.M | re.S)[0]
-    alone = uses(everything(crate, "specs/*.antt"), title) == uses(statement, title)
-    return "specs/%s.antt" % file, [statement] if alone else []
+    """The file of what a law is about, and the text there that is the law's alone, if there is any.
+
+    That is its statement, which has the law's name with a capital, if no other definition uses it; or, where no statement has its
+    name, the whole file of definitions, if no contract and no other definition leads there; or else its own line among the laws.
+    """
+    module, name = law.split(".")
+    file, laws = CRATES / crate / "specs" / (module + ".antt"), CRATES / crate / "proofs" / (module + ".antt")
+    if not file.exists():
+        return "proofs/%s.antt" % module, re.findall(r"^ *pub %s : .*$" % name, laws.read_text(), re.M)
+    title, text = name[0].upper() + name[1:], file.read_text()
+    statement = re.search(r"^abbrev pub %s :.*?\n(?=\n|\Z)" % title, text, re.M | re.S)
+    if statement:
+        return "specs/%s.antt" % module, [statement[0]] if uses(everything(crate, "specs/*.antt"), title) == uses(statement[0], title) else []
+    others = everything(crate, "src/**/*.rt") + everything(crate, "specs/*.antt")
+    return "specs/%s.antt" % module, [] if "specs.%s." % module in others else [text]
 
 
 def facts(log):
