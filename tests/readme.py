@@ -3,8 +3,9 @@
     python3 readme.py
 
 Run are the first command but for its 'rt check', which the gate has done, and the five lines that link both libraries into
-a C program. The copy has the repository's own files and what was proved, so that nothing is proved twice and no other test
-is disturbed. The exit status is 1 where something else is printed.
+a C program; the first of the five, which builds the libraries, is run once for all tests. The copy has the repository's own
+files and what was proved, so that nothing is proved twice and no other test is disturbed. The exit status is 1 where something
+else is printed.
 """
 
 import pathlib
@@ -14,12 +15,15 @@ import sys
 import tempfile
 
 ROOT = pathlib.Path(__file__).resolve().parent.parent
+sys.path.insert(0, str(ROOT / "bench"))
+import sides  # noqa: E402
 
 # What stands before each block, and the last lines that it prints: the paper's own session, and a list of one record, 4 bytes
 # of count, then 3015h:2, its size and 150.
 FIRST = "Run it:", ["4F01100000000000", "6015300200000000", "O 0 0 0 0 00"]
 LINKED = "There are two static libraries:", ["13 bytes: 01 00 00 00 15 30 02 02 00 00 00 96 00"]
 DONE_BY_THE_GATE = "rt check && "
+BUILT = "firmware", "gateway"
 
 
 def block(opening):
@@ -38,7 +42,7 @@ def copy(place):
         (place / name).parent.mkdir(parents=True, exist_ok=True)
         shutil.copy2(ROOT / name, place / name)
     shutil.copytree(ROOT / "target" / "stamp", place / "target" / "stamp")
-    for made in ("rlib", "bin"):
+    for made in ("rlib", "bin", "staticlib"):
         (place / "target" / made).symlink_to(ROOT / "target" / made)
 
 
@@ -59,9 +63,11 @@ def main():
         first = block(FIRST[0])
         assert len(first) == 1 and first[0].startswith(DONE_BY_THE_GATE), first
         linking = block(LINKED[0])
-        assert len(linking) == 5, linking
+        assert len(linking) == 5 and linking[0] == " && ".join("rt staticlib %s" % crate for crate in BUILT), linking
+        for crate in BUILT:
+            sides.library(crate)
         good = prints(place, [first[0].removeprefix(DONE_BY_THE_GATE)], FIRST[1])
-        good &= prints(place, linking, LINKED[1])
+        good &= prints(place, linking[1:], LINKED[1])
     return 0 if good else 1
 
 

@@ -1,6 +1,6 @@
 """The command for the yard: `./run restore`, and what `./run` says of itself.
 
-    python3 restore.py [--seed S]
+    python3 restore.py [--seed S] [--reals N]
 
 Lists are held against those typed in lists.py and against the model's; what is shown of two
 images against words written here from the paper's table of names and against values worked
@@ -274,15 +274,15 @@ def check_lists(check, seed):
     check.made(DEFAULT, image_of(second), lists_model.list_of(DEFAULTS, second))
 
 
-def check_reals(check, seed):
-    """REAL32 by hand, at every power of two and beside it, and at random."""
+def check_reals(check, seed, count):
+    """REAL32 by hand, at every power of two and beside it, and so many at random."""
     for bits, words in REAL_WORDS.items():
         assert real_words(bits) == words, "%08X is %s and not %s" % (bits, words, real_words(bits))
     rng = random.Random("reals %s" % seed)
     some = list(REAL_WORDS)
     some += [(exponent << 23) + beside for exponent in range(1, 255) for beside in (-1, 0, 1)]
     some += [struct.unpack("<I", struct.pack("<f", n / 10**k))[0] for k in range(6) for n in rng.sample(range(100000), 100)]
-    some += [bits for bits in (rng.getrandbits(32) for _ in range(10000)) if bits >> 23 & 0xFF < 255]
+    some += [bits for bits in (rng.getrandbits(32) for _ in range(count)) if bits >> 23 & 0xFF < 255]
     for at in range(0, len(some), 2 * len(REALS)):
         first, second = list(DEFAULTS), list(DEFAULTS)
         for place, bits, other in zip(REALS, some[at::2], some[at + 1 :: 2]):
@@ -466,13 +466,14 @@ def check_broken(check):
 def main(arguments):
     parser = argparse.ArgumentParser(description="the command for the yard")
     parser.add_argument("--seed", default="1")
-    seed = parser.parse_args(arguments).seed
+    parser.add_argument("--reals", type=int, default=5000)
+    asked = parser.parse_args(arguments)
     try:
         with tempfile.TemporaryDirectory() as folder:
             check = Check(pathlib.Path(folder).resolve())
-            check_lists(check, seed)
-            reals = check_reals(check, seed)
-            check_refusals(check, seed)
+            check_lists(check, asked.seed)
+            reals = check_reals(check, asked.seed, asked.reals)
+            check_refusals(check, asked.seed)
             check.made(DEFAULT, DEFAULT, bytes(4))
             for part in (check_words, check_images, check_names, check_unwritable, check_full, check_signals, check_broken):
                 part(check)
