@@ -68,7 +68,7 @@ def of_function(crate, function):
     *modules, name = function.split("::")
     file = "src/%s.rt" % "/".join(modules or ["lib"])
     text = (CRATES / crate / file).read_text()
-    head = re.search(r"^(pub )?(extern \"C\" )?fn %s\(" % name, text, re.M)
+    head = re.search(r"^(pub )?(extern \"C\" )?fn %s\b" % name, text, re.M)
     begin = re.compile(r"^\{$|\) (-> [^{}\n]+ )?\{$", re.M).search(text, head.end()).end()
     body = text[begin : text.index("\n}\n", begin)]
     source = everything(crate, "src/**/*.rt")
