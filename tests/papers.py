@@ -71,7 +71,7 @@ def edge():
 
 def believed():
     """The files that have to be believed, and the types."""
-    waiting = [CRATES / file for file in ("promises/specs/Demands.antt", "dialogue/specs/Pieces.antt")]
+    waiting = [CRATES / file for file in ("promises/specs/Demands.antt", "session/specs/Pieces.antt")]
     files, types = {*waiting}, set()
     waiting += sorted(edge())
     while waiting:

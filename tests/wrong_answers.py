@@ -45,7 +45,9 @@ def wrong_answers(edit):
             file = line.removeprefix("file: ")
             found = found or [Wrong(edit.stem, None)]
         elif line.startswith("old: "):
-            found[-1].changes.append((file, line.removeprefix("old: ")))
+            found[-1].changes.append([file, line.removeprefix("old: "), ""])
+        elif line.startswith("new:"):
+            found[-1].changes[-1][2] = line.removeprefix("new:").removeprefix(" ")
         assert said or not line.startswith("wrong"), "%s: %s" % (edit, line)
     return found
 
@@ -64,34 +66,50 @@ def everything(crate, pattern):
 
 
 def of_function(crate, function):
-    """The function's file below its crate, and what is its alone there: its body, and constants that nothing else uses."""
+    """What is the function's alone, each text with its file below the crate: its body, and constants that nothing else uses."""
     *modules, name = function.split("::")
     file = "src/%s.rt" % "/".join(modules or ["lib"])
     text = (CRATES / crate / file).read_text()
     head = re.search(r"^(pub )?(extern \"C\" )?fn %s\b" % name, text, re.M)
     begin = re.compile(r"^\{$|\) (-> [^{}\n]+ )?\{$", re.M).search(text, head.end()).end()
     body = text[begin : text.index("\n}\n", begin)]
-    source = everything(crate, "src/**/*.rt")
-    constants = [(found[0], found[1]) for found in re.finditer(r"^const (\w+):.*?;$", text, re.M | re.S)]
-    return file, [body, *(said for said, constant in constants if uses(source, constant) == uses(body, constant) + 1)]
+    source = re.sub(r"^use .*$", "", everything(crate, "src/**/*.rt"), flags=re.M)
+    own = [(file, body)]
+    for place in (CRATES / crate / "src").rglob("*.rt"):
+        for found in re.finditer(r"^(?:pub )?const (\w+):.*?;$", place.read_text(), re.M | re.S):
+            if uses(body, found[1]) and uses(source, found[1]) == uses(body, found[1]) + 1:
+                own.append((place.relative_to(CRATES / crate).as_posix(), found[0]))
+    return own
 
 
 def of_law(crate, law):
-    """The file of what a law is about, and the text there that is the law's alone, if there is any.
+    """The text that is the law's alone, with its file below the crate, if there is any.
 
-    That is its statement, which has the law's name with a capital, if no other definition uses it; or, where no statement has its
-    name, the whole file of definitions, if no contract and no other definition leads there; or else its own line among the laws.
+    That is its statement, which has the law's name with a capital, if no other definition uses it but as a whole field of a record, which
+    gathers it; or, where no statement has its name, the whole file of definitions, if no contract and no other definition leads there; or
+    else its own line among the laws.
     """
     module, name = law.split(".")
-    file, laws = CRATES / crate / "specs" / (module + ".antt"), CRATES / crate / "proofs" / (module + ".antt")
+    file = CRATES / crate / "specs" / (module + ".antt")
     if not file.exists():
-        return "proofs/%s.antt" % module, re.findall(r"^ *pub %s : .*$" % name, laws.read_text(), re.M)
+        laws, = (CRATES / crate / "proofs").rglob(module + ".antt")
+        return [(laws.relative_to(CRATES / crate).as_posix(), line) for line in re.findall(r"^ *pub %s : .*$" % name, laws.read_text(), re.M)]
     title, text = name[0].upper() + name[1:], file.read_text()
     statement = re.search(r"^abbrev pub %s :.*?\n(?=\n|\Z)" % title, text, re.M | re.S)
     if statement:
-        return "specs/%s.antt" % module, [statement[0]] if uses(everything(crate, "specs/*.antt"), title) == uses(statement[0], title) else []
+        others = re.sub(r"^use .*$|^ *pub [\w-]+ : %s$" % title, "", everything(crate, "specs/*.antt"), flags=re.M)
+        return [("specs/%s.antt" % module, statement[0])] if uses(others, title) == uses(statement[0], title) else []
     others = everything(crate, "src/**/*.rt") + everything(crate, "specs/*.antt")
-    return "specs/%s.antt" % module, [] if "specs.%s." % module in others else [text]
+    return [] if "specs.%s." % module in others else [("specs/%s.antt" % module, text)]
+
+
+def stand(changes, file, text):
+    """Whether all changes are of that file and, made one after the other, stand in that text."""
+    for at, old, new in changes:
+        if at != file or old not in text:
+            return False
+        text = text.replace(old, new)
+    return True
 
 
 def facts(log):
@@ -103,7 +121,7 @@ def facts(log):
         error, verdict = ERROR.match(line), VERDICT.match(line)
         if error and not error[2].endswith("-spec") and not any(words in error[3] for words in FOLLOWS):
             place = re.sub(r".*/(specs|proofs)/", "", error[1])
-            yield place.removesuffix("/Proof").replace("/", "::") if place.endswith("/Proof") else "%s.%s" % (place, error[2])
+            yield place.removesuffix("/Proof").replace("/", "::") if place.endswith("/Proof") else "%s.%s" % (place.split("/")[-1], error[2])
         elif verdict and verdict[2].startswith("no proof: ") and "`search` does not close" in verdict[2]:
             yield verdict[1]
 
@@ -115,10 +133,10 @@ def faults(crate, wrongs, log):
     if owners == [None]:
         return [] if broken else ["%s: no fact is refused" % wrongs[0].name]
     for wrong in wrongs:
-        file, texts = (of_law if "." in wrong.whose else of_function)(crate, wrong.whose)
+        own = (of_law if "." in wrong.whose else of_function)(crate, wrong.whose)
         if owners.count(wrong.whose) > 1:
             said.append("%s: another wrong answer is %s's" % (wrong.name, wrong.whose))
-        if any(at != file or not any(old in text for text in texts) for at, old in wrong.changes):
+        if not any(stand(wrong.changes, file, text) for file, text in own):
             said.append("%s: changes more than %s" % (wrong.name, wrong.whose))
         if wrong.whose not in broken:
             said.append("%s: no fact of %s is refused" % (wrong.name, wrong.whose))
@@ -130,7 +148,7 @@ def faults(crate, wrongs, log):
 def without(log, whose):
     """The log as it would be if that wrong answer were taken for right."""
     file, _, law = whose.partition(".")
-    begin = r"\S*/proofs/%s\.antt:\S+ error: `%s`" % (file, law) if law else r"\S*/proofs/%s/Proof\.antt:" % whose.replace("::", "/")
+    begin = r"\S*/proofs/(?:\S+/)?%s\.antt:\S+ error: `%s`" % (file, law) if law else r"\S*/proofs/%s/Proof\.antt:" % whose.replace("::", "/")
     kept = [line for line in log if not re.match(begin, line)]
     return [re.sub(r"^(fn \w+::%s: ).*" % whose, r"\1proved", line) for line in kept]
 

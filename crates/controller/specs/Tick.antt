@@ -5,12 +5,12 @@ use mathlib.Core.List.{List}
 use lib.IntN.{ℤ, pos}
 use lib.ListN.{getD}
 use Rattle.unit.specs.Each.{each}
-use Rattle.maths.specs.Maths.{mathTurn}
-use Rattle.tables.specs.Tables.{tableTurn}
-use Rattle.logics.specs.Logics.{logicTurn}
-use Rattle.inputs.specs.Inputs.{inputTurn}
-use Rattle.outputs.specs.Outputs.{outputTurn}
-use Rattle.error_register.specs.Register.{registered}
+use Rattle.math.specs.Maths.{mathTurn}
+use Rattle.table.specs.Tables.{tableTurn}
+use Rattle.logic.specs.Logics.{logicTurn}
+use Rattle.input.specs.Inputs.{inputTurn}
+use Rattle.output.specs.Outputs.{outputTurn}
+use Rattle.controller.specs.Register.{registered}
 
 -- "A tick takes four samples."
 unfoldable pub ticked : List ℤ → List ℕ → List ℕ

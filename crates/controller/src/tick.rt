@@ -1,13 +1,13 @@
 // One tick: inputs, math, tables, logic, outputs, then 1001h.
 ghost use mathlib.Core.Path.{_≡_};
 ghost use Rattle.controller.specs.Tick.{ticked};
+use crate::error_register::register;
 use dictionary::slots::Unit;
-use error_register::register;
-use inputs::inputs;
-use logics::logics;
-use maths::maths;
-use outputs::outputs;
-use tables::tables;
+use input::turns::inputs;
+use logic::turns::logics;
+use math::turns::maths;
+use output::turns::outputs;
+use table::turns::tables;
 
 // Any words, any samples.
 pub fn tick(unit: &mut Unit, samples: [i16; 4])

@@ -1,3 +1,4 @@
 pub mod Apart
+pub mod OneEach
 pub mod Sieve
 pub mod Tabulate

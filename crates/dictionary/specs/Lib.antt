@@ -1,3 +1,4 @@
 pub mod Names
+pub mod Objects
 pub mod Rows
 pub mod Unit

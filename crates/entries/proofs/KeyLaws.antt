@@ -16,7 +16,7 @@ use Rattle.dictionary.proofs.Apart.{apart-from, Apart, apart-first}
 use Rattle.dictionary.proofs.Sieve.{agree-on}
 use Rattle.dictionary.proofs.Tabulate.{tabulate}
 use Rattle.roles.specs.Roles.{ranges, ranged, chosen}
-use Rattle.widths.proofs.WidthLaws.{ranged-whole}
+use Rattle.roles.proofs.widths.WidthLaws.{ranged-whole}
 use Rattle.entries.specs.Judge.{finite, number-of, within, in-range}
 use Rattle.entries.specs.declared.types.Verdict.the-variants.{Good}
 

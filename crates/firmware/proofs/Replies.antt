@@ -5,11 +5,11 @@ use mathlib.Core.List.{List}
 use mathlib.Core.Path.{_≡_, refl, sym, ap, _∙_}
 use lib.IntN.{pos}
 use lib.ListN.{length}
-use Rattle.little.specs.Little.{bytes}
-use Rattle.frames.specs.Frames.{reply-to, reply, name-in}
-use Rattle.frames.specs.declared.types.Abort.{Abort}
-use Rattle.frames.specs.declared.types.Answer.{Answer}
-use Rattle.frames.specs.declared.types.Answer.the-variants.{Silent, Aborted, Value, Written}
+use Rattle.octets.specs.Little.{bytes}
+use Rattle.sdo.specs.Frames.{reply-to, reply, name-in}
+use Rattle.sdo.specs.declared.types.Abort.{Abort}
+use Rattle.sdo.specs.declared.types.Answer.{Answer}
+use Rattle.sdo.specs.declared.types.Answer.the-variants.{Silent, Aborted, Value, Written}
 use Rattle.sdo.specs.Served.{Served, after, filled}
 use Rattle.firmware.specs.Replied.{Replied}
 

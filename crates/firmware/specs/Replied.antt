@@ -5,8 +5,8 @@ use mathlib.Core.Path.{_≡_}
 use mathlib.Core.List.{List}
 use lib.IntN.{ℤ, pos}
 use lib.ListN.{length}
-use Rattle.frames.specs.Answers.{answer}
-use Rattle.frames.specs.Frames.{reply-to}
+use Rattle.sdo.specs.Answers.{answer}
+use Rattle.sdo.specs.Frames.{reply-to}
 use Rattle.sdo.specs.Served.{after, filled}
 
 pub record Replied (unit frame reply unit′ reply′ : List ℕ) (r : ℤ) : Type 0 where

@@ -10,10 +10,10 @@ use Rattle.numbers.specs.Choice.{first}
 use Rattle.records.specs.Layout.{image-of}
 use Rattle.records.specs.declared.types.Outcome.the-variants.{Good, Refused}
 use Rattle.records.specs.declared.types.Refusal.the-variants.{NoRoom}
-use Rattle.writing.specs.Written.{image-size}
-use Rattle.reading.specs.Reading.{reading}
+use Rattle.image.specs.Written.{image-size}
+use Rattle.image.specs.Reading.{reading}
 use Rattle.image.specs.Loaded.{loaded}
-use Rattle.refusals.specs.Told.{told}
+use Rattle.image.specs.Told.{told}
 
 -- as `Written`, with the number in the outcome's place
 pub record ToldSaved (unit image image′ : List ℕ) (r : ℤ) : Type 0 where

@@ -3,19 +3,19 @@
 ghost use mathlib.Core.Path.{_≡_};
 ghost use Rattle.controller.specs.Tick.{ticked};
 ghost use Rattle.roles.specs.Values.{at-start};
-ghost use Rattle.reading.specs.Reading.{reading};
+ghost use Rattle.image.specs.Reading.{reading};
 ghost use Rattle.firmware.specs.Replied.{Replied};
 ghost use Rattle.firmware.specs.Told.{ToldSaved, ToldLoaded};
-ghost use Rattle.refusals.specs.Told.{told};
+ghost use Rattle.image.specs.Told.{told};
 use controller::tick::tick;
 use dictionary::slots::Unit;
-use frames::types::Answer;
-use fresh::start::start;
 use image::read;
-use reading::check;
-use refusals::number_of;
+use image::reading::check;
+use image::refusals::number_of;
+use image::writing::write;
+use roles::start::start;
 use sdo::serving::serve;
-use writing::write;
+use sdo::types::Answer;
 
 #[no_mangle]
 pub extern "C" fn valve_start(unit: &mut Unit)

@@ -8,18 +8,18 @@ use native.Mathlib.Omega.{arith}
 use lib.Dec.{ltb}
 use lib.ListN.{length, length-append}
 use borrow.Author.Tests.{ltb-true}
-use Rattle.little.specs.Little.{bytes}
-use Rattle.little.proofs.ByteLaws.{bytes-length}
+use Rattle.octets.specs.Little.{bytes}
+use Rattle.octets.proofs.little.ByteLaws.{bytes-length}
 use Rattle.numbers.specs.Choice.{every}
 use Rattle.dictionary.specs.Names.{configured}
 use Rattle.dictionary.specs.Rows.{width}
 use Rattle.records.specs.Layout.{listed, size, entry, record-in}
 use Rattle.records.specs.declared.types.Outcome.the-variants.{Good}
-use Rattle.reading.specs.Reading.{reading, configuration-in}
+use Rattle.image.specs.Reading.{reading, configuration-in}
 use Rattle.sending.specs.Sending.{slots-from, stretch, total}
 use Rattle.sending.proofs.Counting.{all-inside, total-within}
-use Rattle.changes.specs.Changes.{changes, list-of}
-use Rattle.changes.proofs.StandingLaws.{record-length}
+use Rattle.lists.specs.Changes.{changes, list-of}
+use Rattle.lists.proofs.changes.StandingLaws.{record-length}
 
 -- the bytes of a slot's record
 unfoldable pub record-size : ℕ → ℕ

@@ -13,9 +13,9 @@ use Rattle.records.specs.declared.types.Outcome.{Outcome}
 use Rattle.records.specs.declared.types.Outcome.the-variants.{Good, Refused}
 use Rattle.records.specs.Walk.{outcome-number}
 use Rattle.records.specs.declared.types.Refusal.{Refusal}
-use Rattle.refusals.specs.Told as image
-use Rattle.reading.specs.Reading.{reading}
-use Rattle.changes.specs.Changes.{list-of}
+use Rattle.image.specs.Told as image
+use Rattle.image.specs.Reading.{reading}
+use Rattle.lists.specs.Changes.{list-of}
 use Rattle.gateway.proofs.LengthLaws.{list-short}
 use Rattle.lists.specs.Listing.{made, left-by, Listing}
 use Rattle.lists.specs.declared.types.Made.{Made}

@@ -6,8 +6,8 @@ use mathlib.Core.List.{List}
 use lib.IntN.{ℤ, pos, negℤ}
 use lib.ListN.{length}
 use Rattle.records.specs.Walk.{number}
-use Rattle.reading.specs.Reading.{reading}
-use Rattle.changes.specs.Changes.{list-of}
+use Rattle.image.specs.Reading.{reading}
+use Rattle.lists.specs.Changes.{list-of}
 use Rattle.lists.specs.Listing.{made, left-by}
 use Rattle.lists.specs.declared.types.Made.{Made}
 use Rattle.lists.specs.declared.types.Made.the-variants.{Done, Current, Wanted, NoRoom}

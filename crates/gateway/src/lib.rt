@@ -2,11 +2,11 @@
 ghost use mathlib.Core.Path.{_≡_};
 ghost use Rattle.gateway.specs.Restored.{told, Restored};
 ghost use Rattle.lists.specs.declared.types.Made.the-variants.{Wanted};
+use image::refusals::number_of;
 use lists::make_list;
 use lists::types::Made;
 use records::types::Outcome;
 use records::types::Refusal;
-use refusals::number_of;
 
 // "-(10+n) for the wanted"
 fn wanted_refused(why: Refusal) -> i32

@@ -19,8 +19,8 @@ use Rattle.roles.specs.declared.types.Link.{Link}
 use Rattle.roles.specs.declared.types.Link.the-variants.{Free, Loose, Strict}
 use Rattle.roles.proofs.RoleLaws.{run, runs, chains-run}
 use Rattle.entries.specs.Judge.{held, past-upper}
-use Rattle.reading.specs.Reading.{in-place, in-order}
-use Rattle.reading.proofs.PlaceLaws.{sound, two-bytes, runs-sound}
+use Rattle.image.specs.Reading.{in-place, in-order}
+use Rattle.image.proofs.reading.PlaceLaws.{sound, two-bytes, runs-sound}
 
 -- ---- one link
 

@@ -10,8 +10,8 @@ use lib.Dec.{ltb}
 use lib.ListN.{length, getD, take, drop, length-append, length-drop, take-append-drop}
 use lib.Seq.{take-at, drop-at, drop-drop, length-take-le}
 use borrow.Author.Tests.{ltb-true}
-use Rattle.little.specs.Little.{little, bytes, Bytes}
-use Rattle.little.proofs.ByteLaws.{bytes-length, read-back, bytes-from, bytes-to, little-below}
+use Rattle.octets.specs.Little.{little, bytes, Bytes}
+use Rattle.octets.proofs.little.ByteLaws.{bytes-length, read-back, bytes-from, bytes-to, little-below}
 use Rattle.numbers.specs.Choice.{every}
 use Rattle.dictionary.specs.Names.{Entry, entries, configured, index-at, sub-at}
 use Rattle.dictionary.specs.Rows.{width}
@@ -25,9 +25,9 @@ use Rattle.records.specs.Layout.{Listed, listed, nothing, size, records, image-
 use Rattle.records.specs.Walk.{data-in, fits, values}
 use Rattle.records.proofs.RightLaws.{Right, All-right, Whole}
 use Rattle.records.proofs.SizeLaws.{listed-extent, image-length}
-use Rattle.reading.specs.Reading.{in-order, configuration-in}
-use Rattle.reading.proofs.Acceptance.{Accepted}
-use Rattle.reading.proofs.PlaceLaws.{counted, value-at, right-at}
+use Rattle.image.specs.Reading.{in-order, configuration-in}
+use Rattle.image.proofs.reading.Acceptance.{Accepted}
+use Rattle.image.proofs.reading.PlaceLaws.{counted, value-at, right-at}
 use Rattle.image.proofs.ChainTrips.{order-linked, linked-order, front-order}
 use Rattle.image.proofs.LoadLaws.{values-length}
 use Rattle.image.proofs.RecordTrips.{Fit, all-fit, records-right, values-back, records-back, records-front, bytes-back, part-back}

@@ -7,8 +7,8 @@ use native.Mathlib.Nat.{le-of-suc-le-suc, not-suc-le-zero}
 use native.Mathlib.Omega.{arith}
 use lib.ListN.{length, getD, set, take, drop, length-drop, drop-of-length-le}
 use lib.Seq.{drop-cons, take-all}
-use Rattle.little.specs.Little.{little}
-use Rattle.little.proofs.Parts.{placed, part}
+use Rattle.octets.specs.Little.{little}
+use Rattle.octets.proofs.little.Parts.{placed, part}
 use Rattle.dictionary.specs.Rows.{width}
 use Rattle.dictionary.specs.Names.{configured}
 use Rattle.records.specs.Layout.{Listed, size, listed, nothing}
@@ -16,9 +16,9 @@ use Rattle.records.specs.Walk.{size-in, data-in, data-there, values}
 use Rattle.records.proofs.RightLaws.{Right, All-right, Whole}
 use Rattle.records.proofs.TakeLaws.{is-there, at-most-four}
 use Rattle.records.proofs.WalkLaws.{onward}
-use Rattle.reading.specs.Reading.{configuration-in}
-use Rattle.reading.proofs.Acceptance.{Accepted}
-use Rattle.reading.proofs.PlaceLaws.{counted}
+use Rattle.image.specs.Reading.{configuration-in}
+use Rattle.image.proofs.reading.Acceptance.{Accepted}
+use Rattle.image.proofs.reading.PlaceLaws.{counted}
 
 -- ---- one store after the other
 

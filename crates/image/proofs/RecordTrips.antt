@@ -8,9 +8,9 @@ use native.Mathlib.Nat.{le-of-suc-le-suc, not-suc-le-zero, sub-self}
 use native.Mathlib.Omega.{arith}
 use lib.ListN.{length, getD, take, drop, replicate, length-drop, length-append, take-append-drop}
 use lib.Seq.{take-add, take-at, drop-at, drop-drop, length-take-le}
-use Rattle.little.specs.Little.{little, bytes, Bytes}
-use Rattle.little.proofs.ByteLaws.{bytes-length, read-back, given-back, bytes-from, bytes-to}
-use Rattle.little.proofs.Parts.{placed, part}
+use Rattle.octets.specs.Little.{little, bytes, Bytes}
+use Rattle.octets.proofs.little.ByteLaws.{bytes-length, read-back, given-back, bytes-from, bytes-to}
+use Rattle.octets.proofs.little.Parts.{placed, part}
 use Rattle.dictionary.specs.Rows.{width}
 use Rattle.records.specs.Layout.{Listed, size, extent, record-of, records, entry}
 use Rattle.records.specs.Walk.{index-in, sub-in, size-in, data-in, fits, values}

@@ -5,7 +5,7 @@ use mathlib.Core.List.{List, _++_}
 use mathlib.Core.Path.{_≡_}
 use lib.ListN.{drop}
 use Rattle.dictionary.specs.Names.{configured}
-use Rattle.reading.specs.Reading.{reading, configuration-in}
+use Rattle.image.specs.Reading.{reading, configuration-in}
 use Rattle.records.specs.declared.types.Outcome.{Outcome}
 use Rattle.records.specs.declared.types.Outcome.the-variants.{Good, Refused}
 

@@ -1,14 +1,18 @@
 // Reading an image into a unit.
+pub mod reading;
+pub mod refusals;
+pub mod writing;
+
 ghost use mathlib.Core.Path.{_≡_};
 ghost use mathlib.Core.List.{_++_};
 ghost use Prim.Native.Nat.{_≤_};
 ghost use lib.ListN.{length, drop};
 ghost use Rattle.dictionary.specs.Names.{configured};
-ghost use Rattle.reading.specs.Reading.{reading, configuration-in};
+ghost use Rattle.image.specs.Reading.{reading, configuration-in};
 ghost use Rattle.image.specs.Loaded.{Loaded};
+use crate::reading::check;
 use dictionary::slots::EC_VALUE;
 use dictionary::slots::Unit;
-use reading::check;
 use records::data::data_in;
 use records::types::Outcome;
 

@@ -9,8 +9,8 @@ use borrow.Author.Tests.{le-leb, lt-leb, leb-true, leb-false}
 use lib.Dec.{leb}
 use lib.IntN.{ℤ, pos}
 use Rattle.numbers.specs.Choice.{first}
-use Rattle.limits.specs.Limit.{limitWhole}
-use Rattle.whole_line.specs.Line.{nearestSize, nearest, between, lineAt}
+use Rattle.numbers.specs.Limit.{limitWhole}
+use Rattle.numbers.specs.Line.{nearestSize, nearest, between, lineAt}
 use Rattle.numbers.specs.Order.{below}
 use Rattle.input.specs.Input.{within, out, runAfter, clears, kept, flaggedAfter, process}
 use Rattle.input.specs.declared.Settings.{Settings}

@@ -5,8 +5,8 @@ use mathlib.Core.Bool.{Bool, true, false, not}
 use lib.Dec.{leb}
 use lib.IntN.{ℤ, pos, _+ℤ_, _-ℤ_}
 use Rattle.numbers.specs.Choice.{first}
-use Rattle.limits.specs.Limit.{limitWhole}
-use Rattle.whole_line.specs.Line.{lineAt}
+use Rattle.numbers.specs.Limit.{limitWhole}
+use Rattle.numbers.specs.Line.{lineAt}
 use Rattle.numbers.specs.Order.{below}
 use Rattle.input.specs.declared.Settings.{Settings}
 use Rattle.input.specs.declared.Memory.{Memory}

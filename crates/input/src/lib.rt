@@ -1,10 +1,12 @@
 // An analog input: whether it is flagged, and what it hands on.
-use exact::difference;
-use exact::sum;
-use exact::wide;
+pub mod turns;
+
+use numbers::exact::difference;
+use numbers::exact::sum;
+use numbers::exact::wide;
+use numbers::whole_line::Point;
+use numbers::whole_line::limited;
 use signals::signal::Signal;
-use whole_line::Point;
-use whole_line::limited;
 ghost use mathlib.Core.Path.{_≡_};
 ghost use Rattle.input.specs.Input.{within, out, runAfter, clears, kept, process, sensed};
 

@@ -6,12 +6,12 @@ use Prim.Native.Nat.{ℕ, suc, _+_, _-_, _<_, _≤_}
 use native.Mathlib.Omega.{arith}
 use lib.ListN.{length, getD, set, take, drop, length-append, length-drop, drop-of-length-le}
 use lib.Seq.{sets, drop-cons, drop-drop, take-add, length-take-le, length-sets}
-use Rattle.little.specs.Little.{bytes}
-use Rattle.little.proofs.ByteLaws.{bytes-length}
-use Rattle.little.proofs.Parts.{placed, part, sets-append}
+use Rattle.octets.specs.Little.{bytes}
+use Rattle.octets.proofs.little.ByteLaws.{bytes-length}
+use Rattle.octets.proofs.little.Parts.{placed, part, sets-append}
 use Rattle.records.specs.Walk.{size-in}
-use Rattle.changes.specs.Noting.{Stands, record-from}
-use Rattle.changes.proofs.ComparingLaws.{first-tells}
+use Rattle.lists.specs.Noting.{Stands, record-from}
+use Rattle.lists.proofs.changes.ComparingLaws.{first-tells}
 use Rattle.lists.specs.Copying.{Standing}
 
 -- ---- one record more

@@ -8,19 +8,19 @@ use native.Mathlib.Omega.{arith}
 use lib.ListN.{length, take, drop, length-append}
 use lib.Seq.{sets, sets-eq, length-sets, take-at, drop-at, length-take-le}
 use borrow.Author.Tests.{lt-ltb, le-ltb}
-use Rattle.little.specs.Little.{bytes}
-use Rattle.little.proofs.ByteLaws.{bytes-length}
+use Rattle.octets.specs.Little.{bytes}
+use Rattle.octets.proofs.little.ByteLaws.{bytes-length}
 use Rattle.numbers.specs.Choice.{first}
 use Rattle.records.specs.declared.types.Outcome.{Outcome}
 use Rattle.records.specs.declared.types.Outcome.the-variants.{Good, Refused}
 use Rattle.records.specs.declared.types.Refusal.{Refusal}
-use Rattle.reading.specs.Reading.{reading}
-use Rattle.changes.specs.Changes.{list-of, places, noted, found, noting, Finding}
-use Rattle.changes.specs.Noting.{record-from}
-use Rattle.changes.specs.declared.types.Noted.{Noted}
-use Rattle.changes.specs.declared.types.Found.{Found}
-use Rattle.changes.specs.declared.types.Found.the-variants as found
-use Rattle.changes.proofs.OrderLaws.{in-notes, list-by-places, each-stands}
+use Rattle.image.specs.Reading.{reading}
+use Rattle.lists.specs.Changes.{list-of, places, noted, found, noting, Finding}
+use Rattle.lists.specs.Noting.{record-from}
+use Rattle.lists.specs.declared.changes.types.Noted.{Noted}
+use Rattle.lists.specs.declared.changes.types.Found.{Found}
+use Rattle.lists.specs.declared.changes.types.Found.the-variants as found
+use Rattle.lists.proofs.changes.OrderLaws.{in-notes, list-by-places, each-stands}
 use Rattle.lists.specs.Copying.{Standing}
 use Rattle.lists.specs.Listing.{made, left-by, Listing}
 use Rattle.lists.specs.declared.types.Made.the-variants.{Done, Current, Wanted, NoRoom}

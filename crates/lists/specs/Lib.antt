@@ -1,2 +1,4 @@
+pub mod Changes
 pub mod Copying
 pub mod Listing
+pub mod Noting

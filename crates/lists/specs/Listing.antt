@@ -8,8 +8,8 @@ use lib.ListN.{length, drop}
 use Rattle.numbers.specs.Choice.{first}
 use Rattle.records.specs.declared.types.Outcome.{Outcome}
 use Rattle.records.specs.declared.types.Outcome.the-variants.{Good, Refused}
-use Rattle.reading.specs.Reading.{reading}
-use Rattle.changes.specs.Changes.{list-of}
+use Rattle.image.specs.Reading.{reading}
+use Rattle.lists.specs.Changes.{list-of}
 use Rattle.lists.specs.declared.types.Made.{Made}
 use Rattle.lists.specs.declared.types.Made.the-variants.{Done, Current, Wanted, NoRoom}
 

@@ -4,10 +4,10 @@ ghost use mathlib.Core.List.{_++_, flatMap};
 ghost use Prim.Native.Nat.{_+_, _≤_, _<_};
 ghost use lib.ListN.{length, take, drop};
 ghost use lib.Seq.{sets};
-ghost use Rattle.little.specs.Little.{bytes};
-ghost use Rattle.changes.specs.Noting.{Stands, record-from};
+ghost use Rattle.octets.specs.Little.{bytes};
+ghost use Rattle.lists.specs.Noting.{Stands, record-from};
 ghost use Rattle.lists.specs.Copying.{Standing};
-use putting::put;
+use octets::putting::put;
 
 // Four bytes: all are read before one is written, so that they can go as one word.
 fn put_four(list: &mut [u8], at: usize, wanted: &[u8], place: usize)

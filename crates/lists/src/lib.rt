@@ -1,13 +1,14 @@
 // A restore list, made from a current and a wanted image.
+pub mod changes;
 mod copying;
 pub mod types;
 
 ghost use Rattle.lists.specs.Listing.{Listing};
+use crate::changes::find_changes;
+use crate::changes::types::Found;
+use crate::changes::types::NOTES;
 use crate::copying::write_list;
 use crate::types::Made;
-use changes::find_changes;
-use changes::types::Found;
-use changes::types::NOTES;
 
 // Any bytes, any buffer: the list at the front of the buffer, or nothing where an image is refused or the list does not fit.
 pub fn make_list(current: &[u8], wanted: &[u8], list: &mut [u8]) -> Made

@@ -1,1 +1,3 @@
+pub mod Gathering
 pub mod Logic
+pub mod Logics

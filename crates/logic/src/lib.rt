@@ -1,4 +1,7 @@
 // One condition of a logic block's table.
+pub mod gathering;
+pub mod turns;
+
 use signals::reading::absent;
 use signals::reading::as_real;
 use signals::signal::Signal;

@@ -5,7 +5,7 @@ use mathlib.Core.Path.{_≡_, refl}
 use lib.IntN.{pos}
 use lib.Ieee.{binary32, ofBits, ofInt, add, sub, mul, div, neg, lt, eq}
 use Rattle.numbers.specs.Choice.{first}
-use Rattle.limits.specs.Limit.{limitReal}
+use Rattle.numbers.specs.Limit.{limitReal}
 use Rattle.signals.specs.Signal.{asReal}
 use Rattle.math.specs.Math.{combined, ended, joined, joins, started, starts, operatedOn, operated, scaled}
 use Rattle.signals.specs.declared.signal.Signal.{Signal}

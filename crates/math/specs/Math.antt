@@ -6,7 +6,7 @@ use lib.Dec.{eqb}
 use lib.IntN.{ℤ}
 use lib.Ieee.{Float, binary32, ofBits, ofInt, add, sub, mul, div, neg, lt, eq}
 use Rattle.numbers.specs.Choice.{first}
-use Rattle.limits.specs.Limit.{limitReal}
+use Rattle.numbers.specs.Limit.{limitReal}
 use Rattle.signals.specs.Signal.{isAbsent, asReal}
 use Rattle.signals.specs.declared.signal.Signal.{Signal}
 use Rattle.signals.specs.declared.signal.Signal.the-variants.{Whole, Real, Error, Absent}

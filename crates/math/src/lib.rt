@@ -1,6 +1,9 @@
 // One math block: what it is made of, and one step of its operators. Each operation stands in the order that the paper gives, and is
 // rounded once.
-use limits::limit_real;
+pub mod folding;
+pub mod turns;
+
+use numbers::limits::limit_real;
 use signals::signal::Signal;
 ghost use mathlib.Core.Path.{_≡_};
 ghost use mathlib.Core.Bool.{_&&_};

@@ -9,16 +9,16 @@ use lib.Dec.{eqb}
 use lib.IntN.{ℤ, pos, _+ℤ_, _-ℤ_}
 use lib.Signed.{_≤ℤ_, _<ℤ_}
 use Rattle.numbers.specs.Choice.{first}
-use Rattle.limits.specs.Limit.{limitWhole}
-use Rattle.whole_line.specs.Line.{nearestSize, nearest, between, lineAt}
+use Rattle.numbers.specs.Limit.{limitWhole}
+use Rattle.numbers.specs.Line.{nearestSize, nearest, between, lineAt}
 use Rattle.numbers.specs.Order.{below}
-use Rattle.limits.proofs.LimitLaws.{limit-from, limit-to}
+use Rattle.numbers.proofs.limits.LimitLaws.{limit-from, limit-to}
 use Rattle.numbers.proofs.Orders.{lt-is-below}
-use Rattle.whole_line.proofs.LineLaws.{from-first, to-second}
+use Rattle.numbers.proofs.whole_line.LineLaws.{from-first, to-second}
 use Rattle.numbers.proofs.Choices.{chosen}
 use Rattle.output.specs.Output.{rule, ruleOf, faultOf}
 use Rattle.output.specs.Commanded.{Within, Some-rule, Rules-1-to-6, Rule-7}
-use Rattle.turning.specs.Turning.{isOn, isOff, turnedOn, turnedOff}
+use Rattle.output.specs.Turning.{isOn, isOff, turnedOn, turnedOff}
 use Rattle.output.specs.Output.{span, step, rise, fall, moved, target, ramped, byRule, command}
 use Rattle.signals.specs.Signal.{whole}
 use Rattle.signals.specs.declared.signal.Signal.{Signal}

@@ -1,2 +1,5 @@
 pub mod Commanded
 pub mod Output
+pub mod Outputs
+pub mod Rules
+pub mod Turning

@@ -4,13 +4,13 @@ use Prim.Native.Nat.{ℕ, _+_, _-_, _/_}
 use lib.Dec.{eqb}
 use lib.IntN.{ℤ, pos, natAbs, _+ℤ_, _-ℤ_}
 use Rattle.numbers.specs.Choice.{first}
-use Rattle.limits.specs.Limit.{limitWhole}
-use Rattle.whole_line.specs.Line.{lineAt}
+use Rattle.numbers.specs.Limit.{limitWhole}
+use Rattle.numbers.specs.Line.{lineAt}
 use Rattle.numbers.specs.Order.{below}
 use Rattle.signals.specs.Signal.{isError, isAbsent, whole}
 use Rattle.output.specs.declared.Settings.{Settings}
 use Rattle.signals.specs.declared.signal.Signal.{Signal}
-use Rattle.turning.specs.Turning.{turnedOn, turnedOff}
+use Rattle.output.specs.Turning.{turnedOn, turnedOff}
 
 -- "First rule that applies": its number in the paper. An unavailable enable is neither off nor in error, so it
 -- enables; an unavailable override is neither on nor in error, so it does nothing.

@@ -5,8 +5,8 @@ ghost use lib.IntN.{pos, natAbs, _+ℤ_, _-ℤ_};
 ghost use lib.Signed.{_≤ℤ_};
 ghost use mir.Syntax.{w16};
 ghost use mir.Val.{SFits};
-use exact::difference;
-use exact::wide;
+use numbers::exact::difference;
+use numbers::exact::wide;
 
 pub fn raised(a: i16, by: u32) -> i32
     requires { ⌜ by < 65536 ⌝ }

@@ -1,14 +1,16 @@
 // A current output: the ramp to its target.
 mod distances;
+pub mod turning;
+pub mod turns;
 
 use crate::distances::distance;
 use crate::distances::lowered;
 use crate::distances::narrow;
 use crate::distances::raised;
-use exact::wide;
-use limits::limit_whole;
-use whole_line::Point;
-use whole_line::limited;
+use numbers::exact::wide;
+use numbers::limits::limit_whole;
+use numbers::whole_line::Point;
+use numbers::whole_line::limited;
 ghost use mathlib.Core.Path.{_≡_};
 ghost use Prim.Native.Nat.{_<_};
 ghost use Rattle.output.specs.Output.{span, step, rise, fall, moved, target, ramped};

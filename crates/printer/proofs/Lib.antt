@@ -1,3 +1,12 @@
+pub mod Answers
+pub mod Cutting
+pub mod Decimals
+pub mod Every
 pub mod Examples
+pub mod Fields
+pub mod Hexes
+pub mod Lengths
+pub mod Lines
 pub mod Replies
 pub mod RoundTrip
+pub mod Stores

@@ -8,19 +8,19 @@ use lib.Dec.{lit<}
 use lib.IntN.{ℤ}
 use lib.ListN.{getD, replicate}
 use Rattle.numbers.specs.Signed.{signed16}
-use Rattle.little.specs.Little.{bytes}
-use Rattle.frames.specs.Frames.{reply-to, reply, name-in}
-use Rattle.frames.specs.declared.types.Abort.{Abort}
-use Rattle.frames.specs.declared.types.Answer.{Answer}
-use Rattle.frames.specs.declared.types.Answer.the-variants.{Silent, Aborted, Value, Written}
+use Rattle.octets.specs.Little.{bytes}
+use Rattle.sdo.specs.Frames.{reply-to, reply, name-in}
+use Rattle.sdo.specs.declared.types.Abort.{Abort}
+use Rattle.sdo.specs.declared.types.Answer.{Answer}
+use Rattle.sdo.specs.declared.types.Answer.the-variants.{Silent, Aborted, Value, Written}
 use Rattle.sdo.specs.Served.{filled}
 use Rattle.dictionary.specs.Names.{slot-of}
 use Rattle.unit.proofs.Slots.{has, stretch, array, var}
 use Rattle.unit.specs.Entry.{whole, byte}
-use Rattle.answers.specs.Printing.{Printed, replyLine, silentLine, tickLine}
-use Rattle.lines.specs.Reading.{asked}
-use Rattle.lines.specs.declared.reading.Request.{Request}
-use Rattle.lines.specs.declared.reading.Verb.the-variants.{Frame, Tick, Unknown}
+use Rattle.printer.specs.Printing.{Printed, replyLine, silentLine, tickLine}
+use Rattle.printer.specs.Reading.{asked}
+use Rattle.printer.specs.declared.reading.Request.{Request}
+use Rattle.printer.specs.declared.reading.Verb.the-variants.{Frame, Tick, Unknown}
 use Rattle.printer.specs.Answering.{Said, shown, stateLine, served, sampled, unheard, done, said, Answers}
 
 -- what is printed may be told in another way

@@ -13,12 +13,12 @@ use lib.ListN.{length}
 use mir.Syntax.{w16}
 use mir.Val.{SFits}
 use Rattle.numbers.specs.Choice.{first, every}
-use Rattle.answers.specs.Printing.{width, lastDigits, digits, decimal, spaced}
-use Rattle.lines.specs.Reading.{fields, letter, isDigit, minus, unsigned, tens, sizeOf, valueOf, isDigits, isDecimal, tickOf, askedTick, askedBy, asked}
-use Rattle.lines.proofs.Cutting.{whole, apart}
-use Rattle.lines.proofs.Decimals.{digit-yes, minus-in, plain-in}
-use Rattle.lines.proofs.Every.{both, every-append, every-weaker}
-use Rattle.answer_lines.proofs.Places.{length-digits, width-range}
+use Rattle.printer.specs.Printing.{width, lastDigits, digits, decimal, spaced}
+use Rattle.printer.specs.Reading.{fields, letter, isDigit, minus, unsigned, tens, sizeOf, valueOf, isDigits, isDecimal, tickOf, askedTick, askedBy, asked}
+use Rattle.printer.proofs.Cutting.{whole, apart}
+use Rattle.printer.proofs.Decimals.{digit-yes, minus-in, plain-in}
+use Rattle.printer.proofs.Every.{both, every-append, every-weaker}
+use Rattle.printer.proofs.answer_lines.Places.{length-digits, width-range}
 
 -- ---- digits are digits, as many as the number needs, and say the number
 last-are-digits : (w n : ℕ) → every isDigit (lastDigits w n) ≡ true

@@ -5,18 +5,18 @@ use Prim.Native.Nat.{ℕ}
 use mathlib.Core.List.{List, [], _∷_}
 use mathlib.Core.Path.{_≡_}
 use lib.IntN.{ℤ}
-use Rattle.frames.specs.Answers as frames
-use Rattle.frames.specs.Frames.{reply-to}
-use Rattle.frames.specs.declared.types.Answer.{Answer}
-use Rattle.frames.specs.declared.types.Answer.the-variants.{Silent, Aborted, Value, Written}
+use Rattle.sdo.specs.Answers as frames
+use Rattle.sdo.specs.Frames.{reply-to}
+use Rattle.sdo.specs.declared.types.Answer.{Answer}
+use Rattle.sdo.specs.declared.types.Answer.the-variants.{Silent, Aborted, Value, Written}
 use Rattle.sdo.specs.Served.{after}
 use Rattle.unit.specs.Entry.{whole, byte}
 use Rattle.controller.specs.Tick.{ticked}
-use Rattle.answers.specs.Printing.{Printed, replyLine, silentLine, tickLine, unknownLine}
-use Rattle.lines.specs.Reading.{asked}
-use Rattle.lines.specs.declared.reading.Request.{Request}
-use Rattle.lines.specs.declared.reading.Verb.{Verb}
-use Rattle.lines.specs.declared.reading.Verb.the-variants.{Frame, Tick, Unknown}
+use Rattle.printer.specs.Printing.{Printed, replyLine, silentLine, tickLine, unknownLine}
+use Rattle.printer.specs.Reading.{asked}
+use Rattle.printer.specs.declared.reading.Request.{Request}
+use Rattle.printer.specs.declared.reading.Verb.{Verb}
+use Rattle.printer.specs.declared.reading.Verb.the-variants.{Frame, Tick, Unknown}
 
 -- the unit that a line leaves, and what it prints
 pub record Said : Type 0 where

@@ -1,22 +1,22 @@
 // What a line of the session does to the unit, and what it prints.
 ghost use mathlib.Core.Path.{_≡_};
 ghost use Rattle.sdo.specs.Served.{after};
-ghost use Rattle.answers.specs.Printing.{Printed};
+ghost use Rattle.printer.specs.Printing.{Printed};
 ghost use Rattle.printer.specs.Answering.{decided, shown, stateLine, sampled, said, Answers};
-use answer_lines::show_reply;
-use answer_lines::show_tick;
-use answers::printing::show_silent;
-use answers::printing::show_unknown;
+use crate::answer_lines::show_reply;
+use crate::answer_lines::show_tick;
+use crate::printing::show_silent;
+use crate::printing::show_unknown;
+use crate::reading::Verb;
+use crate::reading::read;
 use controller::tick::tick;
 use dictionary::slots::COMMAND;
 use dictionary::slots::ERROR_REGISTER;
 use dictionary::slots::Unit;
-use frames::types::Answer;
-use lines::reading::Verb;
-use lines::reading::read;
 use sdo::serving::serve;
-use words::byte_at;
-use words::whole_at;
+use sdo::types::Answer;
+use unit::words::byte_at;
+use unit::words::whole_at;
 
 // The reply, or -.
 fn serve_frame(unit: &mut Unit, frame: &[u8], out: &mut [u8; 64]) -> usize

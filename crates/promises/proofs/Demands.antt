@@ -3,10 +3,10 @@
 use Rattle.output.proofs.OutputLaws as OutputLaws
 use Rattle.promises.specs.Demands.{Demand-1, Demand-2, Demand-3}
 use Rattle.promises.proofs.Bench as Bench
-use Rattle.promised_images.proofs.Images as Images
-use Rattle.promised_lists.proofs.Restoring as Restoring
-use Rattle.promised_runs.proofs.Running as Running
-use Rattle.promised_frames.proofs.Serving as Serving
+use Rattle.promises.proofs.Images as Images
+use Rattle.promises.proofs.Restoring as Restoring
+use Rattle.promises.proofs.Running as Running
+use Rattle.promises.proofs.Serving as Serving
 
 pub demand-1 : Demand-1
 demand-1 =

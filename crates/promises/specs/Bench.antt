@@ -6,13 +6,13 @@ use mathlib.Core.Path.{_≡_}
 use mathlib.Core.List.{List, [], _∷_}
 use lib.Ieee.{binary32, ofBits}
 use lib.IntN.{ℤ, pos, negℤ}
-use Rattle.whole_line.specs.Line.{lineAt}
-use Rattle.rounding.specs.Nearest.{nearest16}
+use Rattle.numbers.specs.Line.{lineAt}
+use Rattle.numbers.specs.Nearest.{nearest16}
 use Rattle.dictionary.specs.Names.{slot-of}
 use Rattle.entries.specs.Judge.{held}
 use Rattle.roles.specs.Values.{at-start}
-use Rattle.frames.specs.Answers.{answer}
-use Rattle.frames.specs.Frames.{reply-to}
+use Rattle.sdo.specs.Answers.{answer}
+use Rattle.sdo.specs.Frames.{reply-to}
 use Rattle.input.specs.Input.{process}
 use Rattle.input.specs.declared.Settings.{Settings}
 

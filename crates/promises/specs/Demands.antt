@@ -2,10 +2,10 @@
 -- Assumes nothing.
 use Rattle.output.specs.Commanded.{Some-rule, Rules-1-to-6, Rule-7}
 use Rattle.promises.specs.Bench.{On-the-bench}
-use Rattle.promised_images.specs.Images.{Saved-reads-back, Same-bytes-again, Accepts-exactly, One-configuration-each, Refusals-write-nothing, Looked-up-as-it-stands}
-use Rattle.promised_lists.specs.Restoring.{Always-fits, Each-accepted, Arrives, Cut-anywhere, Count-is-difference, Shortest, Turned-away-exactly, Refused-lists-write-nothing, One-list}
-use Rattle.promised_runs.specs.Running.{Only-the-fold, Always-sound}
-use Rattle.promised_frames.specs.Serving.{Untouched, Determined, Reads-back, Stays-valid, Decided-by-configuration}
+use Rattle.promises.specs.Images.{Saved-reads-back, Same-bytes-again, Accepts-exactly, One-configuration-each, Refusals-write-nothing, Looked-up-as-it-stands}
+use Rattle.promises.specs.Restoring.{Always-fits, Each-accepted, Arrives, Cut-anywhere, Count-is-difference, Shortest, Turned-away-exactly, Refused-lists-write-nothing, One-list}
+use Rattle.promises.specs.Running.{Only-the-fold, Always-sound}
+use Rattle.promises.specs.Serving.{Untouched, Determined, Reads-back, Stays-valid, Decided-by-configuration}
 
 -- "Every frame, image and sample is taken. .. Each call ends, and no caller has to look first": no public function has a `requires`, and the checker proves that each ends
 pub record Demand-1 : Type 0 where

@@ -1,2 +1,7 @@
 pub mod Bench
+pub mod Delivery
 pub mod Demands
+pub mod Images
+pub mod Restoring
+pub mod Running
+pub mod Serving

@@ -5,8 +5,8 @@ use mathlib.Core.List.{List, [], _∷_}
 use Prim.Native.Nat.{ℕ, _+_}
 use native.Mathlib.Omega.{arith}
 use lib.ListN.{length, length-append}
-use Rattle.little.specs.Little.{bytes}
-use Rattle.little.proofs.ByteLaws.{bytes-length}
+use Rattle.octets.specs.Little.{bytes}
+use Rattle.octets.proofs.little.ByteLaws.{bytes-length}
 use Rattle.dictionary.specs.Names.{configured}
 use Rattle.dictionary.specs.Rows.{width}
 use Rattle.records.specs.Layout.{Listed, listed, size, extent, record-of, records, image-of}

@@ -8,8 +8,8 @@ use native.Mathlib.Omega.{arith}
 use lib.Dec.{eqb, ltb}
 use lib.ListN.{length, getD, take, drop}
 use borrow.Author.Tests.{lt-ltb, le-ltb, eq-eqb, ne-eqb}
-use Rattle.little.specs.Little.{little}
-use Rattle.little.proofs.Parts.{placed, part}
+use Rattle.octets.specs.Little.{little}
+use Rattle.octets.proofs.little.Parts.{placed, part}
 use Rattle.numbers.specs.Choice.{first}
 use Rattle.dictionary.specs.Rows.{width, u8}
 use Rattle.dictionary.specs.declared.types.Range.{Range}

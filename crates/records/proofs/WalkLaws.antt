@@ -10,7 +10,7 @@ use lib.Dec.{eqb, ltb}
 use lib.ListN.{length, getD, take, drop, length-drop, drop-of-length-le}
 use lib.Seq.{drop-cons, drop-drop, take-all}
 use borrow.Author.Tests.{lt-ltb, le-ltb, ltb-false, eq-eqb, ne-eqb}
-use Rattle.little.specs.Little.{little}
+use Rattle.octets.specs.Little.{little}
 use Rattle.numbers.specs.Choice.{first}
 use Rattle.dictionary.specs.Names.{configured}
 use Rattle.records.specs.Layout.{Listed, size, listed, extent}

@@ -3,7 +3,7 @@
 use Prim.Native.Nat.{ℕ, zero, suc, _+_}
 use mathlib.Core.List.{List, [], _∷_, _++_, map}
 use lib.ListN.{take, drop}
-use Rattle.little.specs.Little.{bytes}
+use Rattle.octets.specs.Little.{bytes}
 use Rattle.dictionary.specs.Names.{Entry, entries, configured}
 use Rattle.dictionary.specs.Rows.{width, u8}
 use Rattle.dictionary.specs.declared.types.Range.{Range}

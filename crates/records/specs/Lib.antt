@@ -1,3 +1,4 @@
 pub mod Layout
+pub mod LookUp
 pub mod Rows
 pub mod Walk

@@ -1,9 +1,9 @@
 // The data of a record.
 ghost use mathlib.Core.Path.{_≡_};
 ghost use Rattle.records.specs.Walk.{data-there};
-use little::four_at;
-use little::two;
-use little::two_at;
+use octets::little::four_at;
+use octets::little::two;
+use octets::little::two_at;
 
 // Of the record at the front, if it has so many bytes of data, one, two or four; else 0.
 pub fn data_in(rest: &[u8], size: u8) -> u32

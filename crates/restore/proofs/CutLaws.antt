@@ -9,7 +9,7 @@ use lib.Dec.{ltb}
 use lib.ListN.{length, getD, take, drop, length-append, length-drop, take-append-drop}
 use lib.Seq.{take-all, length-take-le}
 use borrow.Author.Tests.{lt-ltb, le-ltb, ltb-true, ltb-false}
-use Rattle.little.specs.Little.{little}
+use Rattle.octets.specs.Little.{little}
 use Rattle.numbers.specs.Choice.{first}
 use Rattle.records.specs.Layout.{Listed, listed, size, extent}
 use Rattle.records.specs.Walk.{index-in, sub-in, size-in, data-in, valued, sized, decoded, behind, and-then, walked, taken-in}
@@ -17,7 +17,7 @@ use Rattle.records.specs.declared.types.Walked.{Walked}
 use Rattle.records.specs.declared.types.Walked.the-variants.{Taken, Refused}
 use Rattle.records.proofs.SizeLaws.{listed-extent}
 use Rattle.records.proofs.WalkLaws.{image-taken}
-use Rattle.reading.specs.Reading.{finished, reading}
+use Rattle.image.specs.Reading.{finished, reading}
 
 -- ---- the front of a list, with anything behind it
 

@@ -5,7 +5,7 @@ use super::buffer::front;
 use super::buffer::put;
 use super::buffer::put_byte;
 use super::buffer::put_hex;
-use little::four_at;
+use octets::little::four_at;
 
 // How many bytes there are, whether more are wanted, and whether the file can be read; where it cannot, that has been told.
 pub struct Fetched {

@@ -20,7 +20,7 @@ use libc::STDERR_FILENO;
 use libc::STDOUT_FILENO;
 use lists::make_list;
 use lists::types::Made;
-use little::four_at;
+use octets::little::four_at;
 use records::types::Refusal;
 use rows::put_row;
 use rows::row_of;

@@ -9,9 +9,9 @@ use super::buffer::put_hex;
 use super::real::put_real;
 use super::words::put_entry;
 use libc::STDOUT_FILENO;
-use little::four_at;
-use little::two_at;
-use lookup::look_up;
+use octets::little::four_at;
+use octets::little::two_at;
+use records::lookup::look_up;
 
 fn put_integer16(line: &mut Buffer, at: usize, pattern: u16) -> usize {
     if pattern < 0x8000 {

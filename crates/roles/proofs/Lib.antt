@@ -1,1 +1,2 @@
 pub mod RoleLaws
+pub mod StartLaws

@@ -9,12 +9,12 @@ use lib.ListN.{length, getD, set, drop}
 use lib.Seq.{drop-cons}
 use denote.Enum.Declared.{tagOf}
 use types.Run.{OneOf, miss}
-use Rattle.little.specs.Little.{bytes}
-use Rattle.frames.specs.Frames.{name-in, code, read-command, cut, reply, reply-to}
-use Rattle.frames.specs.declared.types.Abort.{Abort}
-use Rattle.frames.specs.declared.types.Answer.{Answer}
-use Rattle.frames.specs.declared.types.Answer.the-variants.{Silent, Aborted, Value, Written}
-use Rattle.frames.proofs.types.Answer as AnswerType
+use Rattle.octets.specs.Little.{bytes}
+use Rattle.sdo.specs.Frames.{name-in, code, read-command, cut, reply, reply-to}
+use Rattle.sdo.specs.declared.types.Abort.{Abort}
+use Rattle.sdo.specs.declared.types.Answer.{Answer}
+use Rattle.sdo.specs.declared.types.Answer.the-variants.{Silent, Aborted, Value, Written}
+use Rattle.sdo.proofs.types.Answer as AnswerType
 use Rattle.sdo.specs.Served.{after, filled}
 
 -- an answer that writes nothing: told by the case's number

@@ -4,10 +4,10 @@ use Prim.Native.Nat.{ℕ}
 use mathlib.Core.Path.{_≡_}
 use mathlib.Core.List.{List, _++_}
 use lib.ListN.{length, set, drop}
-use Rattle.frames.specs.Answers.{answer}
-use Rattle.frames.specs.Frames.{reply-to}
-use Rattle.frames.specs.declared.types.Answer.{Answer}
-use Rattle.frames.specs.declared.types.Answer.the-variants.{Silent, Aborted, Value, Written}
+use Rattle.sdo.specs.Answers.{answer}
+use Rattle.sdo.specs.Frames.{reply-to}
+use Rattle.sdo.specs.declared.types.Answer.{Answer}
+use Rattle.sdo.specs.declared.types.Answer.the-variants.{Silent, Aborted, Value, Written}
 
 -- "An abort changes no state. An accepted write changes that one entry"
 unfoldable pub after : List ℕ → Answer → List ℕ

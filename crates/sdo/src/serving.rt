@@ -3,12 +3,12 @@ ghost use mathlib.Core.Path.{_≡_};
 ghost use mathlib.Core.List.{_++_};
 ghost use Prim.Native.Nat.{_≤_};
 ghost use lib.ListN.{length, drop};
-ghost use Rattle.frames.specs.Frames.{code, read-command, cut, reply};
+ghost use Rattle.sdo.specs.Frames.{code, read-command, cut, reply};
 ghost use Rattle.sdo.specs.Served.{Served, after, filled};
+use crate::deciding::decide;
+use crate::types::Abort;
+use crate::types::Answer;
 use dictionary::slots::Unit;
-use frames::deciding::decide;
-use frames::types::Abort;
-use frames::types::Answer;
 
 fn code_of(abort: Abort) -> u32
     ensures { λ r. ⌜ r ≡ code abort ⌝ }

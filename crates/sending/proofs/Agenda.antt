@@ -11,8 +11,8 @@ use Rattle.numbers.specs.Choice.{first}
 use Rattle.dictionary.specs.Names.{configured, slot-of}
 use Rattle.dictionary.proofs.Tabulate.{tabulate, agree}
 use Rattle.roles.specs.Chains.{chains, upper-in, upper-of}
-use Rattle.configuration.proofs.Configuration.{at-each}
-use Rattle.configuration.proofs.Neighbours.{near}
+use Rattle.entries.proofs.Configuration.{at-each}
+use Rattle.entries.proofs.Neighbours.{near}
 use Rattle.sending.specs.Sending.{order}
 
 -- a slot, and whether it is called for what rises

@@ -23,7 +23,7 @@ use Rattle.entries.specs.Valid.{Valid}
 use Rattle.roles.specs.declared.types.Link.{Link}
 use Rattle.roles.specs.declared.types.Link.the-variants.{Free, Loose, Strict}
 use Rattle.entries.specs.declared.types.Verdict.the-variants.{Good}
-use Rattle.configuration.proofs.Neighbours.{near, another, is-another, upper-another}
+use Rattle.entries.proofs.Neighbours.{near, another, is-another, upper-another}
 use Rattle.sending.specs.Sending.{grows}
 use Rattle.sending.proofs.Agenda.{place, turn-of, place-inside, further}
 

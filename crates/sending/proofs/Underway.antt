@@ -16,7 +16,7 @@ use Rattle.dictionary.proofs.Tabulate.{tabulate}
 use Rattle.entries.specs.Judge.{judged}
 use Rattle.entries.specs.Valid.{Valid}
 use Rattle.entries.specs.declared.types.Verdict.the-variants.{Good}
-use Rattle.configuration.proofs.Allowed.{allowed}
+use Rattle.entries.proofs.Allowed.{allowed}
 use Rattle.sending.specs.Sending.{sends}
 use Rattle.sending.proofs.Agenda.{Call, turns, turn-of, call-at, turn-at, slot-inside}
 use Rattle.sending.proofs.Clock.{Stands, due, stage, stage-in, stage-valid}

@@ -1,11 +1,13 @@
 // The session printer: standard input is read piece by piece, and the answers to a piece are on standard output before more is read.
-use dialogue::LINE;
-use dialogue::close;
-use dialogue::hear;
+mod dialogue;
+
+use crate::dialogue::LINE;
+use crate::dialogue::close;
+use crate::dialogue::hear;
 use dictionary::slots::Unit;
-use fresh::start::start;
 use libc::STDIN_FILENO;
 use libc::STDOUT_FILENO;
+use roles::start::start;
 
 // What is read at once, and room for every answer that it can bring: 64 bytes for each of its bytes.
 const PIECE: usize = 256;

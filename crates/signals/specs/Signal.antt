@@ -3,7 +3,7 @@
 use mathlib.Core.Bool.{Bool, true, false}
 use lib.IntN.{ℤ, pos}
 use lib.Ieee.{binary32, ofInt}
-use Rattle.rounding.specs.Nearest.{nearest16}
+use Rattle.numbers.specs.Nearest.{nearest16}
 use Rattle.signals.specs.declared.signal.Signal.{Signal}
 use Rattle.signals.specs.declared.signal.Signal.the-variants.{Whole, Real, Error, Absent}
 

@@ -1,6 +1,6 @@
 // A signal as the blocks read it: as a REAL32, as a whole number, and the two states that are no number.
 use crate::signal::Signal;
-use rounding::nearest;
+use numbers::rounding::nearest;
 ghost use mathlib.Core.Path.{_≡_};
 ghost use Rattle.signals.specs.Signal.{isAbsent, isError, asReal, whole};
 

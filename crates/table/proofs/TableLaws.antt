@@ -15,7 +15,7 @@ use lib.Signed.{mag, leZ, _≤ℤ_, ≤ℤ-refl}
 use mir.Syntax.{w16}
 use mir.Val.{toZ, ofZ}
 use Rattle.numbers.specs.Choice.{first}
-use Rattle.whole_line.specs.Line.{nearestSize, nearest, between, lineAt}
+use Rattle.numbers.specs.Line.{nearestSize, nearest, between, lineAt}
 use Rattle.numbers.specs.Signed.{signed16, twos}
 use Rattle.numbers.specs.Order.{below}
 use Rattle.numbers.proofs.Orders.{not-below-is-le, le-is-not-below}

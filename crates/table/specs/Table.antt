@@ -8,8 +8,8 @@ use lib.Dec.{eqb}
 use lib.IntN.{ℤ}
 use lib.ListN.{getD}
 use Rattle.numbers.specs.Choice.{first}
-use Rattle.whole_line.specs.Line.{lineAt}
-use Rattle.rounding.specs.Nearest.{nearest16}
+use Rattle.numbers.specs.Line.{lineAt}
+use Rattle.numbers.specs.Nearest.{nearest16}
 use Rattle.numbers.specs.Order.{below}
 use Rattle.numbers.specs.Signed.{signed16}
 use Rattle.signals.specs.declared.signal.Signal.{Signal}

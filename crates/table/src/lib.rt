@@ -1,9 +1,11 @@
 // A lookup table over the words of its three entries, lent by the caller.
+pub mod turns;
+
+use numbers::rounding::nearest;
 use numbers::signed::signed;
-use rounding::nearest;
+use numbers::whole_line::Point;
+use numbers::whole_line::line;
 use signals::signal::Signal;
-use whole_line::Point;
-use whole_line::line;
 ghost use mathlib.Core.Path.{_≡_};
 ghost use Prim.Native.Nat.{_<_};
 ghost use lib.ListN.{getD};

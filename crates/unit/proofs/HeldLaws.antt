@@ -12,8 +12,8 @@ use lib.Seq.{getD-set-same, getD-set-other}
 use Rattle.numbers.specs.Choice.{first}
 use Rattle.dictionary.specs.Unit.{signals-at, runs-at, flags-at, unit-size}
 use Rattle.signals.specs.declared.signal.Signal.{Signal}
-use Rattle.keeping.specs.Words.{kindOf, numberOf, ofWords}
-use Rattle.keeping.proofs.WordLaws.{Kept, read-back}
+use Rattle.signals.specs.Words.{kindOf, numberOf, ofWords}
+use Rattle.signals.proofs.keeping.WordLaws.{Kept, read-back}
 use Rattle.unit.specs.Held.{place, at-row, laid, held, lay}
 
 module _ (unit : List ℕ) (row : ℕ) (s : Signal) where

@@ -16,10 +16,10 @@ use lib.ListN.{getD}
 use borrow.Author.Tests.{ne-eqb, le-leb, lt-leb}
 use Rattle.numbers.specs.Choice.{first}
 use Rattle.dictionary.specs.Names.{Stretch, stretches, with-index, named, at-sub, largest, slot-of, slot-found}
-use Rattle.objects.specs.Objects.{meant}
-use Rattle.objects.specs.declared.Object.the-variants.{Var, Array}
+use Rattle.dictionary.specs.Objects.{meant}
+use Rattle.dictionary.specs.declared.objects.Object.the-variants.{Var, Array}
 use Rattle.dictionary.proofs.Tabulate.{tabulate, tabulated}
-use Rattle.naming.proofs.NameLaws.{by-object, array-value, var-value}
+use Rattle.dictionary.proofs.naming.NameLaws.{by-object, array-value, var-value}
 
 -- ---- one index
 

@@ -10,7 +10,7 @@ use lib.IntN.{ℤ}
 use lib.ListN.{getD, set}
 use Rattle.numbers.specs.Signed.{signed16}
 use Rattle.dictionary.specs.Names.{slot-of}
-use Rattle.keeping.specs.Words.{realOf}
+use Rattle.signals.specs.Words.{realOf}
 
 -- the word of a name
 unfoldable pub entry : List ℕ → ℕ → ℕ → ℕ

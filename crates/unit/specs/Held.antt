@@ -6,7 +6,7 @@ use lib.Dec.{ltb}
 use lib.ListN.{getD, set}
 use Rattle.numbers.specs.Choice.{first}
 use Rattle.dictionary.specs.Unit.{signals-at}
-use Rattle.keeping.specs.Words.{kindOf, numberOf, ofWords}
+use Rattle.signals.specs.Words.{kindOf, numberOf, ofWords}
 use Rattle.signals.specs.declared.signal.Signal.{Signal}
 
 -- The signals stand in one row: inputs 1-4, math 1-4, tables 1-6, logic 1-2. Where each kind begins:

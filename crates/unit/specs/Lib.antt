@@ -1,3 +1,5 @@
 pub mod Each
 pub mod Entry
+pub mod Extent
 pub mod Held
+pub mod Sources

@@ -3,8 +3,8 @@ ghost use mathlib.Core.Path.{_≡_};
 ghost use Rattle.unit.specs.Held.{laid};
 use dictionary::slots::SIGNALS;
 use dictionary::slots::Unit;
-use keeping::kind_of;
-use keeping::number_of;
+use signals::keeping::kind_of;
+use signals::keeping::number_of;
 use signals::signal::Signal;
 
 // A row past the last is no block's: nothing is laid down.

@@ -1,7 +1,7 @@
 -- The number of what reading the image finds; the unit is as `Loaded` says.
 -- Assumes nothing.
 use mathlib.Core.Path.{ap, _∙_}
-use Rattle.refusals.specs.Told.{told}
+use Rattle.image.specs.Told.{told}
 use borrow.Author.Needs.{needs, sfits-of}
 use mir.Facts.{toZ-ofZ}
 use Rattle.firmware.proofs.valve_load.Statement.{statement}

@@ -6,7 +6,7 @@ use borrow.Author.Needs.{needs}
 use Prim.Native.Nat.{_-_}
 use lib.ListN.{length, length-set}
 use Rattle.dictionary.specs.Names.{configured}
-use Rattle.reading.proofs.Acceptance.{accepted}
+use Rattle.image.proofs.reading.Acceptance.{accepted}
 use Rattle.image.proofs.LoadLaws.{Half, begun, headed, small, long, next, ended}
 use Rattle.image.proofs.load.Statement.{statement}
 use Rattle.image.proofs.load.Tie as tie

@@ -1,7 +1,7 @@
 -- The line of a limited number, read through the call that gives it.
 -- Assumes nothing.
 use Rattle.input.specs.Input.{process}
-use Rattle.whole_line.proofs.LineCalls.{limited-is}
+use Rattle.numbers.proofs.whole_line.LineCalls.{limited-is}
 use borrow.Author.Needs.{needs}
 use Rattle.input.proofs.scaled.Statement.{statement}
 use Rattle.input.proofs.scaled.Tie as tie

@@ -1,7 +1,7 @@
 -- The line of a limited number, read through the call that gives it.
 -- Assumes nothing.
 use Rattle.output.specs.Output.{target}
-use Rattle.whole_line.proofs.LineCalls.{limited-is}
+use Rattle.numbers.proofs.whole_line.LineCalls.{limited-is}
 use borrow.Author.Needs.{needs}
 use Rattle.output.proofs.aim.Statement.{statement}
 use Rattle.output.proofs.aim.Tie as tie

@@ -2,11 +2,11 @@
 -- Assumes nothing.
 use mathlib.Core.Path.{ap, _∙_}
 use Rattle.unit.specs.Each.{each}
-use Rattle.maths.specs.Maths.{mathTurn}
-use Rattle.tables.specs.Tables.{tableTurn}
-use Rattle.logics.specs.Logics.{logicTurn}
-use Rattle.outputs.specs.Outputs.{outputTurn}
-use Rattle.error_register.specs.Register.{registered}
+use Rattle.math.specs.Maths.{mathTurn}
+use Rattle.table.specs.Tables.{tableTurn}
+use Rattle.logic.specs.Logics.{logicTurn}
+use Rattle.output.specs.Outputs.{outputTurn}
+use Rattle.controller.specs.Register.{registered}
 use Rattle.controller.specs.Tick.{ticked}
 use borrow.Author.Needs.{needs}
 use Rattle.controller.proofs.tick.tick.Statement.{statement}

@@ -7,7 +7,7 @@ use Rattle.numbers.specs.Choice.{first}
 use Rattle.dictionary.specs.declared.types.Kind.the-variants.{Unsigned8}
 use Rattle.dictionary.proofs.Tabulate.{tabulate}
 use Rattle.roles.specs.Roles.{ranged, ranges, chosen}
-use Rattle.widths.proofs.WidthLaws.{kind-on, kind-whole}
+use Rattle.roles.proofs.widths.WidthLaws.{kind-on, kind-whole}
 use Rattle.entries.proofs.limits.kind_of.Statement.{statement}
 use Rattle.entries.proofs.limits.kind_of.Tie as tie
 

@@ -3,7 +3,7 @@
 use mathlib.Core.Path.{refl}
 use native.Mathlib.Omega.{arith}
 use lib.ListN.{length-set}
-use Rattle.little.specs.Little.{bytes}
+use Rattle.octets.specs.Little.{bytes}
 use borrow.Author.Needs.{needs}
 use Rattle.lists.proofs.copying.put_count.Statement.{statement}
 use Rattle.lists.proofs.copying.put_count.Tie as tie

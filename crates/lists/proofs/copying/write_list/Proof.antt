@@ -5,7 +5,7 @@ use native.Mathlib.Omega.{arith}
 use Prim.Native.Nat.{_+_, _-_}
 use lib.ListN.{length}
 use lib.Seq.{length-sets}
-use Rattle.little.specs.Little.{bytes}
+use Rattle.octets.specs.Little.{bytes}
 use Rattle.lists.proofs.CopyingLaws.{Left, counted, behind-count, room-here, onward, all-copied}
 use Rattle.lists.proofs.copying.write_list.Statement.{statement}
 use Rattle.lists.proofs.copying.write_list.Tie as tie

@@ -1,7 +1,7 @@
 -- The reply as it stands in the buffer, or -.
 use mathlib.Core.Path.{ap, _∙_}
 use Rattle.sdo.specs.Served.{after}
-use Rattle.answers.specs.Printing.{replyLine}
+use Rattle.printer.specs.Printing.{replyLine}
 use Rattle.printer.specs.Answering.{decided, shown}
 use Rattle.printer.proofs.Replies.{prints, silent, aborted, value, written}
 use borrow.Author.Needs.{needs}

@@ -1,7 +1,7 @@
 -- `sdo::serving::code_of` meets its contract: each abort has its number, case by case.
 -- Assumes nothing.
 use borrow.Author.Needs.{needs}
-use Rattle.frames.specs.Frames.{code}
+use Rattle.sdo.specs.Frames.{code}
 use Rattle.sdo.proofs.serving.code_of.Statement.{statement}
 use Rattle.sdo.proofs.serving.code_of.Tie as tie
 

@@ -6,8 +6,8 @@ use lib.ListN.{getD}
 use lib.ListN.{length-set}
 use borrow.Author.Needs.{needs}
 use Rattle.sdo.proofs.ReplyLaws.{eight-stores}
-use Rattle.little.specs.Little.{bytes}
-use Rattle.frames.specs.Frames.{reply, name-in}
+use Rattle.octets.specs.Little.{bytes}
+use Rattle.sdo.specs.Frames.{reply, name-in}
 use Rattle.sdo.proofs.serving.respond.Statement.{statement}
 use Rattle.sdo.proofs.serving.respond.Tie as tie
 

@@ -1,7 +1,7 @@
 -- `sdo::serving::serve` meets its contract: whoever is answered sent eight bytes and has room for eight (`AnswerLaws`).
 -- Assumes nothing.
 use borrow.Author.Needs.{needs}
-use Rattle.frames.proofs.AnswerLaws.{heard}
+use Rattle.sdo.proofs.AnswerLaws.{heard}
 use Rattle.sdo.proofs.serving.serve.Statement.{statement}
 use Rattle.sdo.proofs.serving.serve.Tie as tie
 

@@ -4,7 +4,7 @@ use mathlib.Core.Path.{_∙_}
 use borrow.Author.Needs.{needs}
 use Rattle.numbers.specs.Choice.{first}
 use Rattle.numbers.proofs.Tests.{tests}
-use Rattle.frames.specs.Frames.{read-command, cut}
+use Rattle.sdo.specs.Frames.{read-command, cut}
 use Rattle.sdo.proofs.ReplyLaws.{shown}
 use Rattle.sdo.proofs.serving.show.Statement.{statement}
 use Rattle.sdo.proofs.serving.show.Tie as tie

@@ -3,7 +3,7 @@
 use borrow.Author.Tests.{lt-ltb, le-ltb}
 use Rattle.numbers.specs.Choice.{first}
 use Rattle.dictionary.specs.Unit.{signals-at}
-use Rattle.naming.proofs.NameLaws.{counted}
+use Rattle.dictionary.proofs.naming.NameLaws.{counted}
 use Rattle.unit.specs.Held.{place, laid}
 use borrow.Author.Needs.{needs}
 use Rattle.unit.proofs.laying.lay.Statement.{statement}

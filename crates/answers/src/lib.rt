@@ -1,2 +1,0 @@
-// How an answer of the session is printed.
-pub mod printing;

@@ -1,4 +1,0 @@
-pub mod Allowed
-pub mod Configuration
-pub mod Neighbours
-pub mod Start

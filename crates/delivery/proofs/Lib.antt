@@ -1,3 +1,0 @@
-pub mod ListFrames
-pub mod RecordFrames
-pub mod Slots

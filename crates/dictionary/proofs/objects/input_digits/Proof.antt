@@ -1,0 +1,21 @@
+-- `objects::input_digits` meets its contract: each arm has its row, and the arms are all rows that begin so (`Families`).
+-- Assumes nothing.
+use mathlib.Core.Path.{refl}
+use native.Mathlib.Omega.{arith}
+use Rattle.numbers.specs.Choice.{first}
+use Rattle.dictionary.specs.Names.{stretches, with-index}
+use Rattle.dictionary.specs.Objects.{meant}
+use Rattle.dictionary.proofs.objects.Families.{here, no-row, with-part, last-digits}
+use Rattle.dictionary.proofs.objects.input_digits.Statement.{statement}
+use Rattle.dictionary.proofs.objects.input_digits.Tie as tie
+
+returns : tie.Need-returns
+unfolding stretches with-index meant first
+returns c = here 0x6100 (c .match .keys1) refl
+
+returns-2 : tie.Need-returns-2
+unfolding stretches with-part last-digits first
+returns-2 c = no-row 0x61 _ (omega arith) (c .match .rest)
+
+pub input-digits-spec : {M : Type 1} → statement M
+input-digits-spec = tie.close (tie.spec returns returns-2)

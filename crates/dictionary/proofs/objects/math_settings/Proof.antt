@@ -1,0 +1,88 @@
+-- `objects::math_settings` meets its contract: each arm has its row, moved on from the first block's, and the arms are all rows of a block (`Families`).
+-- Assumes nothing.
+use mathlib.Core.Path.{refl}
+use native.Mathlib.Omega.{arith}
+use borrow.Author.Needs.{needs}
+use Rattle.numbers.specs.Choice.{first}
+use Rattle.dictionary.specs.Names.{stretches, with-index, writable, slot-of}
+use Rattle.dictionary.specs.Objects.{meant}
+use Rattle.dictionary.proofs.objects.Families.{in-block, not-in-block, shifted, with-part, last-digits, maths-alike}
+use Rattle.dictionary.proofs.objects.math_settings.Statement.{statement}
+use Rattle.dictionary.proofs.objects.math_settings.Tie as tie
+
+mul-before : tie.Need-mul-before
+mul-before c = search needs
+
+add-t5 : tie.Need-add-t5
+add-t5 c = search needs
+
+add-t6 : tie.Need-add-t6
+add-t6 c = search needs
+
+add-t7 : tie.Need-add-t7
+add-t7 c = search needs
+
+add-t8 : tie.Need-add-t8
+add-t8 c = search needs
+
+add-t9 : tie.Need-add-t9
+add-t9 c = search needs
+
+add-t10 : tie.Need-add-t10
+add-t10 c = search needs
+
+add-t11 : tie.Need-add-t11
+add-t11 c = search needs
+
+returns : tie.Need-returns
+unfolding stretches with-index meant shifted writable slot-of first
+returns c = in-block 4 256 0x46 _ maths-alike _ 0x4600 (omega arith) (omega arith) (omega arith) (c .match .keys1) refl
+
+returns-2 : tie.Need-returns-2
+unfolding stretches with-index meant shifted writable slot-of first
+returns-2 c = in-block 4 256 0x46 _ maths-alike _ 0x4600 (omega arith) (omega arith) (omega arith) (c .match .keys2) refl
+
+returns-3 : tie.Need-returns-3
+unfolding stretches with-index meant shifted writable slot-of first
+returns-3 c = in-block 4 256 0x46 _ maths-alike _ 0x4600 (omega arith) (omega arith) (omega arith) (c .match .keys3) refl
+
+returns-4 : tie.Need-returns-4
+unfolding stretches with-index meant shifted writable slot-of first
+returns-4 c = in-block 4 256 0x46 _ maths-alike _ 0x4600 (omega arith) (omega arith) (omega arith) (c .match .keys4) refl
+
+returns-5 : tie.Need-returns-5
+unfolding stretches with-index meant shifted writable slot-of first
+returns-5 c = in-block 4 256 0x46 _ maths-alike _ 0x4600 (omega arith) (omega arith) (omega arith) (c .match .keys5) refl
+
+returns-6 : tie.Need-returns-6
+unfolding stretches with-index meant shifted writable slot-of first
+returns-6 c = in-block 4 256 0x46 _ maths-alike _ 0x4600 (omega arith) (omega arith) (omega arith) (c .match .keys6) refl
+
+returns-7 : tie.Need-returns-7
+unfolding stretches with-index meant shifted writable slot-of first
+returns-7 c = in-block 4 256 0x46 _ maths-alike _ 0x4600 (omega arith) (omega arith) (omega arith) (c .match .keys7) refl
+
+returns-8 : tie.Need-returns-8
+unfolding stretches with-part last-digits first
+returns-8 c = not-in-block 4 256 0x46 _ maths-alike _ 0x4600 (omega arith) (omega arith) (omega arith) (omega arith) (c .match .rest)
+
+pub math-settings-spec : {M : Type 1} → statement M
+math-settings-spec =
+    tie.close
+    (tie.spec
+    mul-before
+    add-t5
+    add-t6
+    add-t7
+    add-t8
+    add-t9
+    add-t10
+    add-t11
+    returns
+    returns-2
+    returns-3
+    returns-4
+    returns-5
+    returns-6
+    returns-7
+    returns-8)

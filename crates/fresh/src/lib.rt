@@ -1,2 +1,0 @@
-// A fresh unit: every entry at its start value, and nothing remembered.
-pub mod start;

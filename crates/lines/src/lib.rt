@@ -1,2 +1,0 @@
-// What a line of the session asks for.
-pub mod reading;

@@ -1,0 +1,47 @@
+-- The first two bytes and the next two (`Parts`).
+-- Assumes nothing.
+use borrow.Author.Needs.{needs}
+use Rattle.octets.proofs.little.Parts.{four-past, two-and-two}
+use Rattle.octets.proofs.little.four_at.Statement.{statement}
+use Rattle.octets.proofs.little.four_at.Tie as tie
+
+returns : tie.Need-returns
+returns c = four-past _ _ (c .if1 .taken)
+
+two-at-requires : tie.Need-two-at-requires
+two-at-requires c κs = search needs
+
+cast-result : tie.Need-cast-result
+cast-result c = search needs
+
+add-two-at : tie.Need-add-two-at
+add-two-at c = search needs
+
+two-at-requires-2 : tie.Need-two-at-requires-2
+two-at-requires-2 c κs = search needs
+
+cast-result-2 : tie.Need-cast-result-2
+cast-result-2 c = search needs
+
+mul-result : tie.Need-mul-result
+mul-result c = search needs
+
+add-result : tie.Need-add-result
+add-result c = search needs
+
+returns-2 : tie.Need-returns-2
+returns-2 c = two-and-two (c .before .before .before .before .args .bytes .now) (c .before .before .before .before .args .at) (c .before .two-at .ensures) (c .two-at2 .ensures)
+
+pub four-at-spec : {M : Type 1} → statement M
+four-at-spec =
+    tie.close
+    (tie.spec
+    returns
+    two-at-requires
+    cast-result
+    add-two-at
+    two-at-requires-2
+    cast-result-2
+    mul-result
+    add-result
+    returns-2)

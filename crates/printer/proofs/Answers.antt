@@ -1,0 +1,15 @@
+-- What the contract of a printed answer leaves open: nothing, and the answer has room.
+-- Assumes nothing.
+use Prim.Native.Nat.{ℕ, _≤_}
+use mathlib.Core.List.{List}
+use mathlib.Core.Path.{_≡_, ap, sym, _∙_}
+use native.Mathlib.Omega.{arith}
+use lib.ListN.{length, drop, length-append, length-drop}
+use Rattle.printer.specs.Printing.{Printed}
+
+pub printed-once : {answer before x y : List ℕ} {m n : ℕ} → Printed answer before x m → Printed answer before y n → (x ≡ y) × (m ≡ n)
+printed-once p q = (p .bytes ∙ sym (q .bytes), p .counted ∙ sym (q .counted))
+
+pub printed-fits : {answer before after : List ℕ} {count : ℕ} → Printed answer before after count → length after ≡ length before → count ≤ length before
+printed-fits {answer} {before} p e =
+    omega (arith, p .counted, ap length (p .bytes), length-append answer (drop (length answer) before), length-drop (length answer) before)

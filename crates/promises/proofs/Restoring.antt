@@ -1,0 +1,147 @@
+-- The promises of a restore list.
+-- Assumes nothing.
+use mathlib.Core.Path.{_≡_, refl, sym, ap, subst, _∙_}
+use mathlib.Core.List.{List, _++_, flatMap, append-assoc, append-nil}
+use Prim.Native.Nat.{ℕ, suc, _+_}
+use native.Mathlib.Omega.{arith}
+use lib.IntN.{ℤ, pos, negsuc, negℤ}
+use lib.ListN.{length, take, drop, length-map}
+use lib.Seq.{drop-append-seam}
+use Rattle.octets.specs.Little.{little, bytes, Bytes}
+use Rattle.entries.specs.Valid.{Valid}
+use Rattle.sdo.specs.Answers.{size-of}
+use Rattle.sdo.specs.Frames.{reply, reply-to}
+use Rattle.records.specs.Layout.{record-in}
+use Rattle.records.specs.Walk.{number}
+use Rattle.records.specs.declared.types.Outcome.{Outcome}
+use Rattle.records.specs.declared.types.Outcome.the-variants.{Good, Refused}
+use Rattle.image.specs.Reading.{reading, configuration-in}
+use Rattle.image.proofs.reading.Acceptance.{accepted}
+use Rattle.image.proofs.ImageTrips.{configuration-valid}
+use Rattle.sending.specs.Sending.{sends, apart}
+use Rattle.sending.proofs.Counting.{sends-apart}
+use Rattle.sending.proofs.Totals.{total-length}
+use Rattle.sending.proofs.Underway.{either}
+use Rattle.lists.specs.Changes.{changes, list-of}
+use Rattle.lists.specs.Listing.{left-by}
+use Rattle.lists.specs.declared.types.Made.{Made}
+use Rattle.lists.specs.declared.types.Made.the-variants.{Done, Current, Wanted, NoRoom}
+use Rattle.gateway.specs.Restored.{told, outcome}
+use Rattle.promises.specs.Delivery.{frames-in}
+use Rattle.gateway.proofs.LengthLaws.{list-short}
+use Rattle.promises.proofs.ListFrames.{frame-at, count-is, list-long, list-frames}
+use Rattle.promises.specs.Restoring.{list-left, Sent, Restoring, Always-fits, Each-accepted, Arrives, Cut-anywhere, Count-is-difference, one-record, record-bytes, Shortest, Reaches, Turned-away, Turned-away-exactly, Refused-lists-write-nothing, One-list}
+use Rattle.promises.proofs.Listed.{wanted-refused, number-is, buffer-is, left-is}
+use Rattle.promises.proofs.Reached.{only-valid, complete-good, reaches}
+use Rattle.promises.proofs.Spent.{paid}
+use Rattle.promises.proofs.Underway.{Going, begun, ended, next, further}
+
+-- ---- a call, and a unit that holds the current configuration
+
+valid-in : (image : List ℕ) → Bytes image → reading image ≡ Good → Valid (configuration-in image)
+valid-in image b g = configuration-valid image (accepted image g) b
+
+module _ {current wanted buffer buffer′ : List ℕ} {r : ℤ} {unit : List ℕ} (h : Restoring current wanted buffer buffer′ r unit) where
+  first : Valid (configuration-in current)
+  first = valid-in current (h .bytes-first) (h .good-first)
+
+  second : Valid (configuration-in wanted)
+  second = valid-in wanted (h .bytes-second) (h .good-second)
+
+  the-list : list-left r buffer′ ≡ list-of current wanted
+  the-list = left-is (h .good-first) (h .good-second) (h .room) (h .called)
+
+  the-buffer : buffer′ ≡ list-of current wanted ++ drop (length (list-of current wanted)) buffer
+  the-buffer = buffer-is (h .good-first) (h .good-second) (h .room) (h .called)
+
+  -- whatever was sent, and came between
+  there : {sent rest : List (List ℕ)} {unit′ : List ℕ} → frames-in (list-left r buffer′) ≡ sent ++ rest → Sent sent unit unit′ → Going current wanted rest unit′
+  there e s =
+      further current wanted (h .good-second) first second s
+      (subst (λ (f : List (List ℕ)). Going current wanted f unit) (sym (ap frames-in the-list) ∙ e) (begun current wanted (h .good-second) (h .holds)))
+
+  many : length (changes current wanted) ≡ apart (configuration-in current) (configuration-in wanted)
+  unfolding changes
+  many = sends-apart (configuration-in current) (configuration-in wanted)
+
+  counted : little (take 4 buffer′) ≡ apart (configuration-in current) (configuration-in wanted)
+  unfolding list-of
+  counted =
+      let head = bytes 4 (length (changes current wanted)) in
+      let records = flatMap (record-in wanted) (changes current wanted) in
+      let behind = drop (length (list-of current wanted)) buffer in
+      ap (λ (l : List ℕ). little (take 4 l)) (the-buffer ∙ append-assoc head records behind) ∙ count-is current wanted (records ++ behind) ∙ many
+
+  frames-many : length (frames-in (list-left r buffer′)) ≡ apart (configuration-in current) (configuration-in wanted)
+  frames-many =
+      ap (λ (l : List ℕ). length (frames-in l)) the-list ∙ ap length (list-frames current wanted (h .good-second)) ∙ length-map (changes current wanted) (frame-at wanted) ∙ many
+
+-- ---- the promises
+
+pub always-fits : Always-fits
+always-fits current wanted buffer buffer′ r unit h =
+    rw (the-list h) (
+      number-is (h .good-first) (h .good-second) (h .room) (h .called),
+      list-short current wanted (h .good-second),
+      ap (drop (length (list-of current wanted))) (the-buffer h)
+          ∙ drop-append-seam (list-of current wanted) (drop (length (list-of current wanted)) buffer),
+    )
+
+pub each-accepted : Each-accepted
+unfolding reply-to reply bytes
+each-accepted current wanted buffer buffer′ r unit h sent rest f unit′ e s room k =
+    rw (next current wanted (h .good-second) (first h) (second h) (there h e s) .answers room k)
+
+pub arrives : Arrives
+arrives current wanted buffer buffer′ r unit h unit′ s =
+    ended current wanted (there h (sym (append-nil (frames-in (list-left r buffer′)))) s)
+
+pub cut-anywhere : Cut-anywhere
+cut-anywhere current wanted buffer buffer′ r unit h sent rest unit′ e s slot l = either (there h e s .left) slot l
+
+pub count-is-difference : Count-is-difference
+count-is-difference current wanted buffer buffer′ r unit h = (counted h, frames-many h)
+
+pub shortest : Shortest
+unfolding changes
+shortest current wanted buffer buffer′ r unit h events e =
+    let a = configuration-in current in
+    let b = configuration-in wanted in
+    let records = paid (λ s. 1) one-record (λ slot word. omega arith) a b unit events (h .holds .front) e in
+    let all = paid (λ s. 7 + size-of s) record-bytes (λ slot word. omega arith) a b unit events (h .holds .front) e in
+    (omega (arith, frames-many h, many h, total-length (sends a b)), omega (arith, ap length (the-list h), list-long current wanted (h .good-second)))
+
+-- ---- what is turned away
+
+no-list : (n why : ℕ) → pos n ≡ negℤ (pos (10 + why)) → ⊥
+no-list n why e =
+    let more : 10 + why ≡ suc (9 + why) = omega arith in
+    let under : pos n ≡ negsuc (9 + why) = e ∙ ap (λ (m : ℕ). negℤ (pos m)) more in
+    let z : _≡_ {A = ℕ} 0 1 = cc in
+    omega arith
+
+pub turned-away-exactly : Turned-away-exactly
+unfolding told
+turned-away-exactly current wanted buffer buffer′ r b c g complete room called = (
+  λ t reach.
+      let good = complete-good wanted complete (only-valid reach (valid-in current b g)) in
+      no-list (length (list-of current wanted)) (number (t .why)) (sym (number-is g good room called) ∙ t .told),
+  λ never. by-reading never (reading wanted) refl,
+)
+  where
+    by-reading : (Reaches (configuration-in current) (configuration-in wanted) → ⊥) → (o : Outcome) → reading wanted ≡ o → Turned-away r
+    by-reading never Good e = absurd (never (reaches current wanted e c (valid-in current b g) (valid-in wanted c e)))
+    by-reading never (Refused why) e = record { why = why; told = called .answered ∙ ap told (wanted-refused current wanted buffer g e) }
+
+pub refused-lists-write-nothing : Refused-lists-write-nothing
+unfolding told left-by
+refused-lists-write-nothing current wanted buffer buffer′ n called = called .bytes ∙ go (outcome current wanted buffer) (called .answered)
+  where
+    go : (m : Made) → negsuc n ≡ told m → left-by m (list-of current wanted) buffer ≡ buffer
+    go (Done k) e = let z : _≡_ {A = ℕ} 0 1 = cc in absurd (omega arith)
+    go (Current why) e = refl
+    go (Wanted why) e = refl
+    go NoRoom e = refl
+
+pub one-list : One-list
+one-list current wanted buffer b₁ b₂ r s p q = (p .answered ∙ sym (q .answered), p .bytes ∙ sym (q .bytes))

@@ -1,0 +1,177 @@
+-- What is promised of a restore list: of the bytes and the number that `restore_list` leaves to C, sent to a unit as frames.
+-- Assumes nothing.
+use Prim.Native.Nat.{ℕ, _+_, _<_, _≤_}
+use mathlib.Core.Logic.{_⊎_}
+use mathlib.Core.Path.{_≡_}
+use mathlib.Core.List.{List, [], _∷_, _++_}
+use lib.IntN.{ℤ, pos, negsuc, negℤ}
+use lib.ListN.{length, getD, take, drop}
+use Rattle.octets.specs.Little.{little, Bytes}
+use Rattle.dictionary.specs.Names.{configured}
+use Rattle.dictionary.specs.Unit.{unit-size}
+use Rattle.sdo.specs.Answers.{size-of, answer}
+use Rattle.sdo.specs.Frames.{name-in, reply-to}
+use Rattle.sdo.specs.declared.types.Answer.{Answer}
+use Rattle.sdo.specs.declared.types.Answer.the-variants.{Silent, Aborted, Value, Written}
+use Rattle.records.specs.Layout.{Listed, listed, size}
+use Rattle.records.specs.Walk.{number, index-in, sub-in, size-in}
+use Rattle.records.specs.declared.types.Outcome.the-variants.{Good}
+use Rattle.records.specs.declared.types.Refusal.{Refusal}
+use Rattle.image.specs.Reading.{reading, configuration-in}
+use Rattle.sdo.specs.Served.{after}
+use Rattle.sending.specs.Sending.{apart}
+use Rattle.gateway.specs.Restored.{Restored}
+use Rattle.promises.specs.Delivery.{frames-in}
+use Rattle.promises.specs.Running.{Event, frame, tick, happens, run}
+
+-- ---- a list as it is sent: its records as frames are `frames-in` of `delivery`
+
+-- the bytes that the returned number counts
+unfoldable pub list-left : ℤ → List ℕ → List ℕ
+list-left (pos n) buffer = take n buffer
+list-left (negsuc n) buffer = []
+
+-- a unit holds a configuration
+pub record Holds (unit words : List ℕ) : Type 0 where
+  pub long : length unit ≡ unit-size
+  pub front : take configured unit ≡ words
+
+-- "while no other configuration write comes between": a tick, a read, a refused frame, a write to 2500h
+abbrev pub Calm : Event → List ℕ → Type 0
+Calm (frame f room) unit = (slot word : ℕ) → answer unit f room ≡ Written slot word → configured ≤ slot
+Calm (tick samples) unit = Unit
+
+-- some frames, sent in their order to a unit, and what else happened before, between and after them
+pub data Sent : List (List ℕ) → List ℕ → List ℕ → Type 0 where
+  nothing : {unit : List ℕ} → Sent [] unit unit
+  meanwhile : {frames : List (List ℕ)} {unit unit′ : List ℕ} (e : Event) → Calm e unit → Sent frames (happens e unit) unit′ → Sent frames unit unit′
+  send : {f : List ℕ} {frames : List (List ℕ)} {unit unit′ : List ℕ} (room : ℕ) → 8 ≤ room → Sent frames (happens (frame f room) unit) unit′ → Sent (f ∷ frames) unit unit′
+
+-- "For any two complete images in range and in order, and a buffer of 5,207 bytes": a call of `restore_list`, and a unit that holds the first
+pub record Restoring (current wanted buffer buffer′ : List ℕ) (r : ℤ) (unit : List ℕ) : Type 0 where
+  pub bytes-first : Bytes current
+  pub bytes-second : Bytes wanted
+  pub good-first : reading current ≡ Good
+  pub good-second : reading wanted ≡ Good
+  pub room : 5207 ≤ length buffer
+  pub called : Restored current wanted buffer buffer′ r
+  pub holds : Holds unit (configuration-in current)
+
+-- ---- what is promised
+
+-- the call succeeds: in the yard, a list is made whatever the two images are; and 5,207 bytes are always enough
+abbrev pub Always-fits : Type 0
+Always-fits =
+    (current wanted buffer buffer′ : List ℕ) (r : ℤ) (unit : List ℕ) → Restoring current wanted buffer buffer′ r unit
+    → (r ≡ pos (length (list-left r buffer′))) × (length (list-left r buffer′) ≤ 5207) × (drop (length (list-left r buffer′)) buffer′ ≡ drop (length (list-left r buffer′)) buffer)
+
+-- "is accepted record by record": wherever the fitter is in the list, the next frame is answered 60h, its name, four zeros
+abbrev pub Each-accepted : Type 0
+Each-accepted =
+    (current wanted buffer buffer′ : List ℕ) (r : ℤ) (unit : List ℕ) → Restoring current wanted buffer buffer′ r unit
+    → (sent rest : List (List ℕ)) (f unit′ : List ℕ) → frames-in (list-left r buffer′) ≡ sent ++ (f ∷ rest) → Sent sent unit unit′
+    → (room : ℕ) → 8 ≤ room → reply-to f (answer unit′ f room) ≡ 0x60 ∷ name-in f ++ (0 ∷ 0 ∷ 0 ∷ 0 ∷ [])
+
+-- "and leaves the second": after the last frame every entry reads as in the wanted image
+abbrev pub Arrives : Type 0
+Arrives =
+    (current wanted buffer buffer′ : List ℕ) (r : ℤ) (unit : List ℕ) → Restoring current wanted buffer buffer′ r unit
+    → (unit′ : List ℕ) → Sent (frames-in (list-left r buffer′)) unit unit′ → Holds unit′ (configuration-in wanted)
+
+-- "Cut after any record, every entry holds its first or second value": a pulled plug leaves nothing that was in neither image
+abbrev pub Cut-anywhere : Type 0
+Cut-anywhere =
+    (current wanted buffer buffer′ : List ℕ) (r : ℤ) (unit : List ℕ) → Restoring current wanted buffer buffer′ r unit
+    → (sent rest : List (List ℕ)) (unit′ : List ℕ) → frames-in (list-left r buffer′) ≡ sent ++ rest → Sent sent unit unit′
+    → (slot : ℕ) → slot < configured
+    → (getD unit′ slot 0 ≡ getD (configuration-in current) slot 0) ⊎ (getD unit′ slot 0 ≡ getD (configuration-in wanted) slot 0)
+
+-- the count that the list begins with, and the records that it has, are the entries that differ
+abbrev pub Count-is-difference : Type 0
+Count-is-difference =
+    (current wanted buffer buffer′ : List ℕ) (r : ℤ) (unit : List ℕ) → Restoring current wanted buffer buffer′ r unit
+    → (little (take 4 buffer′) ≡ apart (configuration-in current) (configuration-in wanted))
+    × (length (frames-in (list-left r buffer′)) ≡ apart (configuration-in current) (configuration-in wanted))
+
+-- an accepted write counts as one record
+abbrev pub one-record : Answer → ℕ
+one-record Silent = 0
+one-record (Aborted a) = 0
+one-record (Value word n) = 0
+one-record (Written slot word) = 1
+
+-- or as the bytes that the record has in a list
+abbrev pub record-bytes : Answer → ℕ
+record-bytes Silent = 0
+record-bytes (Aborted a) = 0
+record-bytes (Value word n) = 0
+record-bytes (Written slot word) = 7 + size-of slot
+
+-- what the accepted writes of a list of events come to
+abbrev pub written-by : (Answer → ℕ) → Event → List ℕ → ℕ
+written-by worth (frame f room) unit = worth (answer unit f room)
+written-by worth (tick samples) unit = 0
+
+unfoldable pub writes : (Answer → ℕ) → List Event → List ℕ → ℕ
+writes worth [] unit = 0
+writes worth (e ∷ es) unit = written-by worth e unit + writes worth es (happens e unit)
+
+-- "It is as short as any such list can be": whatever takes the unit from the first to the second has at least as many accepted writes, and their records as many bytes
+abbrev pub Shortest : Type 0
+Shortest =
+    (current wanted buffer buffer′ : List ℕ) (r : ℤ) (unit : List ℕ) → Restoring current wanted buffer buffer′ r unit
+    → (events : List Event) → take configured (run events unit) ≡ configuration-in wanted
+    → (length (frames-in (list-left r buffer′)) ≤ writes one-record events unit) × (length (list-left r buffer′) ≤ 4 + writes record-bytes events unit)
+
+-- ---- what is turned away
+
+-- "the right count, all 611 records in place at their sizes and nothing after them"
+abbrev pub In-place : List Listed → List ℕ → Type 0
+In-place [] rest = rest ≡ []
+In-place (e ∷ es) rest =
+    (7 + size e ≤ length rest) × (index-in rest ≡ e .index) × (sub-in rest ≡ e .sub) × (size-in rest ≡ size e) × In-place es (drop (7 + size e) rest)
+
+pub record Complete (image : List ℕ) : Type 0 where
+  pub headed : 4 ≤ length image
+  pub count : little (take 4 image) ≡ configured
+  pub places : In-place listed (drop 4 image)
+
+-- a list of accepted writes
+pub data Accepts : List (List ℕ) → List ℕ → List ℕ → Type 0 where
+  end : {unit : List ℕ} → Accepts [] unit unit
+  next : {f : List ℕ} {frames : List (List ℕ)} {unit unit′ : List ℕ} (slot word : ℕ) → Bytes f → answer unit f 8 ≡ Written slot word
+      → Accepts frames (after unit (Written slot word)) unit′ → Accepts (f ∷ frames) unit unit′
+
+-- one configuration is reached from another
+pub record Reaches (first second : List ℕ) : Type 0 where
+  pub unit : List ℕ
+  pub unit′ : List ℕ
+  pub frames : List (List ℕ)
+  pub before : Holds unit first
+  pub accepts : Accepts frames unit unit′
+  pub after : Holds unit′ second
+
+-- the number says that the wanted image is refused
+pub record Turned-away (r : ℤ) : Type 0 where
+  pub why : Refusal
+  pub told : r ≡ negℤ (pos (10 + number why))
+
+-- "turned away exactly when no list of accepted writes could reach it": nobody is refused what could have been done
+abbrev pub Turned-away-exactly : Type 0
+Turned-away-exactly =
+    (current wanted buffer buffer′ : List ℕ) (r : ℤ) → Bytes current → Bytes wanted → reading current ≡ Good → Complete wanted → 5207 ≤ length buffer
+    → Restored current wanted buffer buffer′ r
+    → (Turned-away r → Reaches (configuration-in current) (configuration-in wanted) → ⊥)
+    × ((Reaches (configuration-in current) (configuration-in wanted) → ⊥) → Turned-away r)
+
+-- ---- refusals, and one answer
+
+-- "A refusal writes nothing": a number below zero leaves every byte of the buffer
+abbrev pub Refused-lists-write-nothing : Type 0
+Refused-lists-write-nothing =
+    (current wanted buffer buffer′ : List ℕ) (n : ℕ) → Restored current wanted buffer buffer′ (negsuc n) → buffer′ ≡ buffer
+
+-- two answers that the contract allows are equal
+abbrev pub One-list : Type 0
+One-list =
+    (current wanted buffer b₁ b₂ : List ℕ) (r s : ℤ) → Restored current wanted buffer b₁ r → Restored current wanted buffer b₂ s → (r ≡ s) × (b₁ ≡ b₂)

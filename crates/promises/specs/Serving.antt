@@ -1,0 +1,54 @@
+-- What is promised of frames.
+-- Assumes nothing.
+use Prim.Native.Nat.{ℕ, _-_, _<_}
+use mathlib.Core.Path.{_≡_}
+use mathlib.Core.List.{List, _∷_, _++_}
+use lib.ListN.{length, getD, take, drop, replicate}
+use Rattle.octets.specs.Little.{Bytes}
+use Rattle.dictionary.specs.Names.{configured, find}
+use Rattle.dictionary.specs.Unit.{unit-size}
+use Rattle.dictionary.specs.declared.types.Found.the-variants.{At}
+use Rattle.entries.specs.Valid.{Valid}
+use Rattle.roles.specs.Values.{at-start}
+use Rattle.sdo.specs.Answers.{answer}
+use Rattle.sdo.specs.Frames.{index-in, sub-in, name-in, command-of, read-command, reply-to}
+use Rattle.sdo.specs.declared.types.Abort.{Abort}
+use Rattle.sdo.specs.declared.types.Answer.{Answer}
+use Rattle.sdo.specs.declared.types.Answer.the-variants.{Silent, Aborted, Written}
+use Rattle.sdo.specs.declared.types.Command.the-variants.{Write}
+use Rattle.sdo.specs.Served.{Served, after}
+
+-- "An abort changes no state"; where there is no reply the buffer is untouched too
+abbrev pub Untouched : Type 0
+Untouched =
+    (unit frame reply unit′ reply′ : List ℕ) (r : Answer) → Served unit frame reply unit′ reply′ r
+    → (r ≡ Silent → (unit′ ≡ unit) × (reply′ ≡ reply)) × ((a : Abort) → r ≡ Aborted a → unit′ ≡ unit)
+
+-- two answers that the contract allows are equal, with all that they leave
+abbrev pub Determined : Type 0
+Determined =
+    (unit frame reply u₁ b₁ u₂ b₂ : List ℕ) (r s : Answer) → Served unit frame reply u₁ b₁ r → Served unit frame reply u₂ b₂ s
+    → (r ≡ s) × (u₁ ≡ u₂) × (b₁ ≡ b₂)
+
+-- an accepted write changes one slot, and a read of the same name then answers with the bytes written, zeros behind them
+abbrev pub Reads-back : Type 0
+Reads-back =
+    (unit frame : List ℕ) (room slot word size : ℕ) → length unit ≡ unit-size → Bytes frame
+    → command-of (getD frame 0 0) ≡ Write size → answer unit frame room ≡ Written slot word
+    → (query : List ℕ) → length query ≡ 8 → getD query 0 0 ≡ 0x40 → name-in query ≡ name-in frame
+    → reply-to query (answer (after unit (Written slot word)) query 8)
+    ≡ read-command size ∷ name-in frame ++ take size (drop 4 frame) ++ replicate (4 - size) 0
+
+-- "Chains, true at all times": at start, and after every frame
+abbrev pub Stays-valid : Type 0
+Stays-valid =
+    Valid at-start
+    × ((unit frame : List ℕ) (room : ℕ) → length unit ≡ unit-size → Bytes frame → Valid unit → Valid (after unit (answer unit frame room)))
+
+-- the configuration decides the answer to a configuration write, and nothing else does
+abbrev pub Decided-by-configuration : Type 0
+Decided-by-configuration =
+    (unit other frame : List ℕ) (room slot size : ℕ)
+    → ((k : ℕ) → k < configured → getD unit k 0 ≡ getD other k 0)
+    → command-of (getD frame 0 0) ≡ Write size → find (index-in frame) (sub-in frame) ≡ At slot → slot < configured
+    → answer unit frame room ≡ answer other frame room

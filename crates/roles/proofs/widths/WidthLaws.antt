@@ -1,0 +1,73 @@
+-- The type of a role and of a slot, and how wide it is.
+-- Assumes nothing.
+use mathlib.Core.Path.{_≡_, refl, sym, ap}
+use mathlib.Core.Bool.{Bool, true, _&&_, and-eq-true-iff}
+use mathlib.Core.List.{List, [], _∷_}
+use Prim.Native.Nat.{ℕ, _-_, _<_, _≤_, zero-le}
+use native.Mathlib.Decide.{decLt}
+use native.Mathlib.Omega.{arith}
+use lib.Dec.{ltb}
+use borrow.Author.Tests.{ne-eqb, ltb-true}
+use Rattle.numbers.specs.Choice.{first}
+use Rattle.dictionary.specs.Rows.{width, i16}
+use Rattle.dictionary.specs.declared.types.Kind.{Kind}
+use Rattle.dictionary.specs.declared.types.Kind.the-variants.{Unsigned8, Integer16}
+use Rattle.dictionary.specs.declared.types.Range.{Range}
+use Rattle.dictionary.proofs.Sieve.{agree-on}
+use Rattle.dictionary.proofs.Tabulate.{tabulate}
+use Rattle.roles.specs.Values.{range-of}
+use Rattle.roles.specs.Roles.{Holding, ranges, ranged, chosen, said, holding, Told}
+
+-- ---- a table of numbers: keys below a bound are not met from there on
+unfoldable pub keys-below : {A : Type 0} → ℕ → List (ℕ × A) → Bool
+keys-below bound [] = true
+keys-below bound (p ∷ ps) = ltb (p .0) bound && keys-below bound ps
+
+past-keys : {A : Type 0} (ps : List (ℕ × A)) (other : A) (bound key : ℕ) → keys-below bound ps ≡ true → bound ≤ key → chosen ps other key ≡ other
+unfolding keys-below chosen first
+past-keys [] other bound key e h = refl
+past-keys (p ∷ ps) other bound key e h =
+    let two = and-eq-true-iff (ltb (p .0) bound) (keys-below bound ps) .0 e in
+    let l = ltb-true (p .0) bound (two .0) in
+    rw (ne-eqb key (p .0) (λ q. omega arith)) (past-keys ps other bound key (two .1) h)
+
+-- ---- types
+
+-- from the first role that has none of its own on, the whole range of INTEGER16
+pub ranged-whole : {role : ℕ} → 17 ≤ role → ranged role ≡ i16 0 .range
+unfolding ranged ranges keys-below
+ranged-whole {role} h = past-keys ranges (i16 0 .range) 17 role refl h
+
+pub kind-on : (kind : Kind) {low high role : ℕ} → low ≤ role → role < high → tabulate (high - low) low (λ r. kind) ≡ tabulate (high - low) low (λ r. ranged r .kind) → kind ≡ ranged role .kind
+kind-on kind {low} {high} {role} l h e = agree-on (λ r. kind) (λ r. ranged r .kind) low high role kind e l h
+
+pub kind-whole : {role : ℕ} → 11 < role → Integer16 ≡ ranged role .kind
+unfolding tabulate ranged ranges chosen first
+kind-whole {role} l = go (decLt role 17)
+  where
+    go : Dec (role < 17) → Integer16 ≡ ranged role .kind
+    go (yes h) = kind-on Integer16 l h refl
+    go (no n) = sym (ap (λ (r : Range). r .kind) (ranged-whole {role = role} (omega arith)))
+
+-- below the REAL32's role, bytes
+pub kind-byte : {role : ℕ} → role < 10 → Unsigned8 ≡ ranged role .kind
+unfolding tabulate ranged ranges chosen first
+kind-byte {role} h = kind-on Unsigned8 zero-le h refl
+
+pub one-wide : {role : ℕ} → role < 10 → 1 ≡ width (ranged role .kind)
+unfolding width
+one-wide h = ap width (kind-byte h)
+
+-- past the REAL32's role, two bytes
+pub two-wide : {role : ℕ} → 10 < role → 2 ≡ width (ranged role .kind)
+unfolding width ranged ranges chosen first
+two-wide {role} l = go (decLt role 12)
+  where
+    go : Dec (role < 12) → 2 ≡ width (ranged role .kind)
+    go (yes h) = let e : role ≡ 11 = omega arith in rw e
+    go (no n) = ap width (kind-whole {role = role} (omega arith))
+
+-- a slot's type is its role's
+pub kind-told : {role slot : ℕ} → Told role slot → ranged role .kind ≡ range-of slot .kind
+unfolding said holding
+kind-told t = ap (λ (h : Holding). h .range .kind) (t .holds)

@@ -1,0 +1,138 @@
+-- What the parts of an answer come to.
+-- Assumes nothing.
+use mathlib.Core.Path.{_≡_, refl, sym, ap, _∙_}
+use mathlib.Core.Bool.{Bool, true, false, _&&_, and-eq-true-iff}
+use mathlib.Core.List.{List, [], _∷_}
+use Prim.Native.Nat.{ℕ, _<_, _≤_}
+use native.Mathlib.Omega.{arith}
+use lib.Dec.{eqb, ltb, leb}
+use lib.ListN.{length, getD}
+use denote.Enum.Declared.{tagOf}
+use types.Run.{OneOf, miss}
+use borrow.Author.Tests.{lt-ltb, le-ltb, eq-eqb, ne-eqb, leb-true, eqb-true, eqb-false, ltb-true, ltb-false}
+use Rattle.numbers.specs.Choice.{first}
+use Rattle.dictionary.specs.Names.{find, slot-found, words, writable}
+use Rattle.dictionary.specs.Unit.{unit-size}
+use Rattle.dictionary.specs.declared.types.Found.{Found}
+use Rattle.dictionary.specs.declared.types.Found.the-variants as found
+use Rattle.dictionary.proofs.naming.NameLaws.{found-below}
+use Rattle.entries.specs.Judge.{judged}
+use Rattle.sdo.specs.Answers.{size-of, reading, stored, offered, refused, writing, obeyed, silent, answer}
+use Rattle.sdo.specs.Frames.{command-of, index-in, sub-in, data-in}
+use Rattle.sdo.specs.declared.types.Abort.the-variants as abort
+use Rattle.sdo.specs.declared.types.Answer.{Answer}
+use Rattle.sdo.specs.declared.types.Answer.the-variants.{Silent, Aborted}
+use Rattle.dictionary.proofs.types.Found as FoundType
+use Rattle.sdo.specs.declared.types.Command.{Command}
+use Rattle.sdo.specs.declared.types.Command.the-variants.{Read, Write, Other}
+
+-- ---- rows 5 to 9, for a slot
+
+module _ (words : List ℕ) (slot size word : ℕ) where
+  pub read-only : writable ≤ slot → Aborted abort.ReadOnly ≡ offered words slot size word
+  unfolding offered first
+  read-only h = simp (le-ltb slot writable h)
+
+  module _ (h : slot < writable) (own : ℕ) (e : own ≡ size-of slot) where
+    pub too-long : own < size → Aborted abort.TooLong ≡ offered words slot size word
+    unfolding offered first
+    too-long l = simp (lt-ltb slot writable h, ← e, lt-ltb own size l)
+
+    pub too-short : size < own → Aborted abort.TooShort ≡ offered words slot size word
+    unfolding offered first
+    too-short l = simp (lt-ltb slot writable h, ← e, le-ltb own size (omega arith), lt-ltb size own l)
+
+    pub fitting : own ≤ size → size ≤ own → stored slot word (judged words slot word) ≡ offered words slot size word
+    unfolding offered first
+    fitting l m = simp (lt-ltb slot writable h, ← e, le-ltb own size m, le-ltb size own l)
+
+-- ---- a name that is found stands in the unit
+
+pub in-unit : {f : Found} {slot : ℕ} → slot-found f < unit-size → f ≡ found.At slot → slot < unit-size
+in-unit h e = rw e at h
+
+pub found-in-unit : (index sub : ℕ) (f : Found) → f ≡ find index sub → slot-found f < unit-size
+unfolding unit-size words
+found-in-unit index sub f e = let h = found-below index sub f e in omega arith
+
+-- ---- a name that is no entry's: told by the case's number
+
+pub no-entry : (words : List ℕ) (size word : ℕ) (f : Found) → OneOf (0 ∷ 1 ∷ 2 ∷ []) (tagOf FoundType.the-type f) → refused f ≡ writing words size word f
+unfolding writing
+no-entry words size word found.NoIndex k = refl
+no-entry words size word found.NoSub k = refl
+no-entry words size word (found.Count n) k = refl
+no-entry words size word (found.At slot) k = absurd (miss (0 ∷ 1 ∷ 2 ∷ []) 3 tt k)
+
+-- ---- the command
+
+-- a write has 1 to 4 bytes
+sized : Command → Bool
+sized Read = true
+sized (Write size) = leb 1 size && leb size 4
+sized Other = true
+
+either : (b : Bool) (x y : Command) → sized x ≡ true → sized y ≡ true → sized (first b x y) ≡ true
+unfolding first
+either true x y p q = p
+either false x y p q = q
+
+always-sized : (byte : ℕ) → sized (command-of byte) ≡ true
+unfolding command-of sized
+always-sized byte =
+    either (eqb byte 0x40) Read _ refl (either (eqb byte 0x23) (Write 4) _ refl (either (eqb byte 0x27) (Write 3) _ refl
+    (either (eqb byte 0x2B) (Write 2) _ refl (either (eqb byte 0x2F) (Write 1) Other refl refl))))
+
+pub write-sizes : (byte size : ℕ) (c : Command) → c ≡ command-of byte → c ≡ Write size → (1 ≤ size) × (size ≤ 4)
+unfolding sized
+write-sizes byte size c e q =
+    let t : sized (Write size) ≡ true = ap sized (sym q ∙ e) ∙ always-sized byte in
+    let both = and-eq-true-iff (leb 1 size) (leb size 4) .0 t in
+    (leb-true 1 size (both .0), leb-true size 4 (both .1))
+
+module _ (words frame : List ℕ) (c : Command) (e : c ≡ command-of (getD frame 0 0)) where
+  pub other-command : c ≡ Other → Aborted abort.Command ≡ obeyed words frame (command-of (getD frame 0 0))
+  unfolding obeyed
+  other-command q = rw (← e, q)
+
+  module _ (index sub : ℕ) (f : Found) (i : index ≡ index-in frame) (s : sub ≡ sub-in frame) (at : f ≡ find index sub) where
+    named-is : f ≡ find (index-in frame) (sub-in frame)
+    named-is = at ∙ ap (λ (x : ℕ). find x sub) i ∙ ap (find (index-in frame)) s
+
+    pub a-read : c ≡ Read → reading words f ≡ obeyed words frame (command-of (getD frame 0 0))
+    unfolding obeyed
+    a-read q = rw (← e, q, named-is)
+
+    pub a-write : (size word : ℕ) → c ≡ Write size → word ≡ data-in size frame → writing words size word f ≡ obeyed words frame (command-of (getD frame 0 0))
+    unfolding obeyed
+    a-write size word q d = rw (← e, q, d, named-is)
+
+-- ---- row 1
+
+module _ (words frame : List ℕ) (room : ℕ) where
+  pub not-eight : (length frame ≡ 8 → ⊥) → Silent ≡ answer words frame room
+  unfolding answer silent first
+  not-eight n = simp (ne-eqb (length frame) 8 n)
+
+  module _ (l : length frame ≡ 8) where
+    pub no-room : room < 8 → Silent ≡ answer words frame room
+    unfolding answer silent first
+    no-room h = simp (eq-eqb (length frame) 8 l, lt-ltb room 8 h)
+
+    module _ (h : 8 ≤ room) where
+      pub an-abort : getD frame 0 0 ≡ 0x80 → Silent ≡ answer words frame room
+      unfolding answer silent first
+      an-abort a = simp (eq-eqb (length frame) 8 l, le-ltb room 8 h, eq-eqb (getD frame 0 0) 0x80 a)
+
+      pub spoken : (getD frame 0 0 ≡ 0x80 → ⊥) → obeyed words frame (command-of (getD frame 0 0)) ≡ answer words frame room
+      unfolding answer silent first
+      spoken n = simp (eq-eqb (length frame) 8 l, le-ltb room 8 h, ne-eqb (getD frame 0 0) 0x80 n)
+
+-- whoever is answered sent eight bytes and has room for eight
+pub heard : (words frame : List ℕ) (room : ℕ) (a : Answer) → a ≡ answer words frame room → (a ≡ Silent → ⊥) → (length frame ≡ 8) × (8 ≤ room)
+heard words frame room a e n = go (eqb (length frame) 8) refl (ltb room 8) refl
+  where
+    go : (t : Bool) → eqb (length frame) 8 ≡ t → (s : Bool) → ltb room 8 ≡ s → (length frame ≡ 8) × (8 ≤ room)
+    go true p false q = (eqb-true (length frame) 8 p, ltb-false room 8 q)
+    go true p true q = absurd (n (e ∙ sym (no-room words frame room (eqb-true (length frame) 8 p) (ltb-true room 8 q))))
+    go false p s q = absurd (n (e ∙ sym (not-eight words frame room (eqb-false (length frame) 8 p))))

@@ -1,2 +1,0 @@
-pub mod Extent
-pub mod Sources

@@ -1,1 +1,0 @@
-// What a tick leaves alone and what it always does: laws in proofs/. There is no code here.
