@@ -1,4 +1,5 @@
-// What the dictionary's entries hold, by their roles: whether a value that is offered is in range, and what may be said of it.
+// Whether a value that is offered to an entry may stand: in its own range, then in order with its chain. proofs/ has the laws of the whole
+// configuration, computed over all of it.
 pub mod judging;
 mod limits;
 pub mod ranges;

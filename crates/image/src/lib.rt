@@ -1,4 +1,4 @@
-// Reading an image into a unit.
+// The configuration image: a unit written as one, bytes checked whether they are one, and one read into a unit, all of it or nothing.
 pub mod reading;
 pub mod refusals;
 pub mod writing;

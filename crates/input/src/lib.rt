@@ -1,4 +1,4 @@
-// An analog input: whether it is flagged, and what it hands on.
+// An analog input: whether it is flagged, and what it hands on; turns.rt has the four of them in a tick.
 pub mod turns;
 
 use numbers::exact::difference;

@@ -1,4 +1,4 @@
-// One condition of a logic block's table.
+// A logic block: one condition of its table here, what an operator makes of three in gathering.rt, the two blocks in a tick in turns.rt.
 pub mod gathering;
 pub mod turns;
 

@@ -1,5 +1,5 @@
-// One math block: what it is made of, and one step of its operators. Each operation stands in the order that the paper gives, and is
-// rounded once.
+// A math block: what it is made of, and one step of its operators. Each operation stands in the order that the paper gives, and is
+// rounded once. folding.rt joins the inputs; turns.rt has the four blocks in a tick.
 pub mod folding;
 pub mod turns;
 

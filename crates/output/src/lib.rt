@@ -1,4 +1,4 @@
-// A current output: the ramp to its target.
+// A current output: the ramp to its target here, what turns it on or off in turning.rt, the four outputs with their rules in turns.rt.
 mod distances;
 pub mod turning;
 pub mod turns;

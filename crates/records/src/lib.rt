@@ -1,5 +1,4 @@
-// The records of a configuration image: what may be said of them, which role each holds, and a record's data. Taking them apart,
-// walking them and looking a name up stand in crates of their own.
+// The records of a configuration image: taking one, walking them from the front, and looking a name up among them.
 pub mod data;
 pub mod lookup;
 pub mod rows;

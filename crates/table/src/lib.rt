@@ -1,4 +1,4 @@
-// A lookup table over the words of its three entries, lent by the caller.
+// A lookup table over the words of its three entries, lent by the caller; turns.rt has the six of them in a tick.
 pub mod turns;
 
 use numbers::rounding::nearest;
