@@ -12,14 +12,12 @@ else in the tree uses.
 
 import fnmatch
 import functools
-import pathlib
 import re
 import sys
 
 import wrong_answers
+from tree import CRATES, ROOT, public, public_functions
 
-ROOT = pathlib.Path(__file__).resolve().parent.parent
-CRATES = ROOT / "crates"
 TRUST = ROOT / "docs" / "TRUST.md"
 PAPERS = [ROOT / "README.md", *sorted(ROOT.glob("docs/*.md")), ROOT / "tests" / "README.md", ROOT / "bench" / "README.md"]
 LEANING = {name: below.split() for name, below in re.findall(r"^(\w+):(.*)", (ROOT / "crates.txt").read_text(), re.M)}
@@ -31,7 +29,7 @@ TICKED = re.compile(r"`([^`]+)`")
 
 def readme_order():
     """The crates as README.md's table has them; it must have each that crates.txt has, once."""
-    cells = re.findall(r"^\| (`.+?) \|", (ROOT / "README.md").read_text(), re.M)
+    cells = re.findall(r"^\|[a-z ]*\| (`.+?) \|", (ROOT / "README.md").read_text(), re.M)
     order = [name for cell in cells for name in TICKED.findall(cell)]
     assert sorted(order) == sorted(LEANING), "README.md's table and crates.txt differ in %s" % sorted({*order} ^ {*LEANING})
     return order
@@ -47,13 +45,6 @@ def cited(file):
             yield crate, kind
         else:
             yield CRATES / crate / "specs" / (path.split(".")[0] + ".antt")
-
-
-def public(file):
-    """The file, and those of its modules that others may use."""
-    folder = file.parent if file.name == "lib.rt" else file.with_suffix("")
-    modules = re.findall(r"^pub mod (\w+);", file.read_text(), re.M)
-    return [file, *(found for module in modules for found in public(folder / (module + ".rt")))]
 
 
 def edge():
@@ -231,19 +222,11 @@ def missing_definitions():
 # --------------------------------------------------------------------------- Contracts
 
 
-def heads(file):
-    """Each public function of a file with what stands between its name and its body."""
-    for text in re.split(r"^ *pub (?:extern \"C\" )?fn ", file.read_text(), flags=re.M)[1:]:
-        yield re.match(r"\w+", text)[0], re.split(r"^ *\{$|\) [^{}\n]*\{$", text, maxsplit=1, flags=re.M)[0]
-
-
 def bare_functions():
     """Public functions that ask something of their callers, or that promise nothing."""
-    for lib in CRATES.glob("*/src/lib.rt"):
-        for file in public(lib):
-            for name, head in heads(file):
-                if "requires {" in head or "ensures {" not in head:
-                    yield "%s: %s has a requires, or no ensures" % (file.relative_to(ROOT), name)
+    for _, file, name, head in public_functions():
+        if "requires {" in head or "ensures {" not in head:
+            yield "%s: %s has a requires, or no ensures" % (file.relative_to(ROOT), name)
 
 
 def main(words):

@@ -2,22 +2,24 @@
 
     python3 wrong_answers.py    after `rt ci`, whose logs it reads; status 1 at a wrong answer that is not refused
 
-An edit makes wrong answers, and `rt ci` tells that its check was refused. A check judges each function by its own code and by the
-contracts of what it calls, and each law by its own statement. So an edit may hold a wrong answer of each of several functions, or a
-wrong statement of each of several laws, as 'wrong: NAME by FUNCTION' or 'wrong: NAME by File.law' before its changes. One check
-tries them all; what it says of each function's own proof, or of each law, tells whether that one is refused.
+An edit makes wrong answers, and `rt ci` tells that its check was refused. Before its changes stands 'wrong: NAME by FUNCTION' or
+'wrong: NAME by File.law': what it is called, and whose proof has to notice it.
 
-Of such an edit: each wrong answer is another function's or law's; its changes stand in what is that one's alone; the check has found
-a fact there that does not hold; and nothing else is unproved but for what rests on one of them. Of an edit without such lines,
-which is one wrong answer and has its file's name: the check has found a fact that does not hold.
+A check judges each function by its own code and by the contracts of what it calls, and each law by its own statement. So a round,
+round_1.edit and so on, holds a wrong answer of each of several functions, or a wrong statement of each of several laws: one check
+tries them all, and what it says of each function's own proof, or of each law, tells whether that one is refused. Of a round: each wrong
+answer is another function's or law's; its changes stand in what is that one's alone; the check has found a fact there that does not
+hold; and nothing else is unproved but for what rests on one of them.
+
+An edit that changes what several lean on, a definition as a rule, stands alone in a file of its own name: the check has found a fact of
+the one that it names that does not hold.
 """
 
-import pathlib
 import re
 import sys
 
-ROOT = pathlib.Path(__file__).resolve().parent.parent
-CRATES = ROOT / "crates"
+from tree import CRATES, ROOT, public_functions
+
 LOGS = ROOT / "target" / "must-fail"
 
 WRONG = re.compile(r"wrong: (\w+) by ([\w:.-]+)")
@@ -28,7 +30,7 @@ FOLLOWS = ("was not admitted", "not in scope", "has no field", "can be named fro
 
 
 class Wrong:
-    """A wrong answer: its name, whose it is where that is said, and the texts that it changes."""
+    """A wrong answer: its name, whose it is, and its changes, each a file, what stands there and what takes its place."""
 
     def __init__(self, name, whose):
         self.name, self.whose, self.changes = name, whose, []
@@ -41,15 +43,19 @@ def wrong_answers(edit):
         said = WRONG.fullmatch(line)
         if said:
             found.append(Wrong(*said.groups()))
-        elif line.startswith("file: "):
+        assert said or not line.startswith("wrong"), "%s: %s" % (edit, line)
+        assert found or not line, "%s: nobody's wrong answer" % edit
+        if line.startswith("file: "):
             file = line.removeprefix("file: ")
-            found = found or [Wrong(edit.stem, None)]
         elif line.startswith("old: "):
             found[-1].changes.append([file, line.removeprefix("old: "), ""])
         elif line.startswith("new:"):
             found[-1].changes[-1][2] = line.removeprefix("new:").removeprefix(" ")
-        assert said or not line.startswith("wrong"), "%s: %s" % (edit, line)
     return found
+
+
+def stands_alone(edit):
+    return not edit.stem.startswith("round_")
 
 
 def names(crate):
@@ -85,15 +91,11 @@ def of_function(crate, function):
 def of_law(crate, law):
     """The text that is the law's alone, with its file below the crate, if there is any.
 
-    That is its statement, which has the law's name with a capital, if no other definition uses it but as a whole field of a record, which
-    gathers it; or, where no statement has its name, the whole file of definitions, if no contract and no other definition leads there; or
-    else its own line among the laws.
+    That is its statement, which has the law's name with a capital, if no other definition uses it but as a whole field of a record that
+    gathers statements; or, where no statement has its name, the whole file of definitions, if no contract and no other definition leads there.
     """
     module, name = law.split(".")
     file = CRATES / crate / "specs" / (module + ".antt")
-    if not file.exists():
-        laws, = (CRATES / crate / "proofs").rglob(module + ".antt")
-        return [(laws.relative_to(CRATES / crate).as_posix(), line) for line in re.findall(r"^ *pub %s : .*$" % name, laws.read_text(), re.M)]
     title, text = name[0].upper() + name[1:], file.read_text()
     statement = re.search(r"^abbrev pub %s :.*?\n(?=\n|\Z)" % title, text, re.M | re.S)
     if statement:
@@ -126,20 +128,18 @@ def facts(log):
             yield verdict[1]
 
 
-def faults(crate, wrongs, log):
+def faults(crate, wrongs, log, alone=False):
     """What is not as it has to be, of an edit's wrong answers and the log of its check."""
-    broken, said = {*facts(log)}, []
-    owners = [wrong.whose for wrong in wrongs]
-    if owners == [None]:
-        return [] if broken else ["%s: no fact is refused" % wrongs[0].name]
+    broken, owners = {*facts(log)}, [wrong.whose for wrong in wrongs]
+    said = ["%s: no fact of %s is refused" % (wrong.name, wrong.whose) for wrong in wrongs if wrong.whose not in broken]
+    if alone:
+        return said
     for wrong in wrongs:
         own = (of_law if "." in wrong.whose else of_function)(crate, wrong.whose)
         if owners.count(wrong.whose) > 1:
             said.append("%s: another wrong answer is %s's" % (wrong.name, wrong.whose))
         if not any(stand(wrong.changes, file, text) for file, text in own):
             said.append("%s: changes more than %s" % (wrong.name, wrong.whose))
-        if wrong.whose not in broken:
-            said.append("%s: no fact of %s is refused" % (wrong.name, wrong.whose))
     verdicts = [verdict.groups() for verdict in map(VERDICT.match, log) if verdict]
     apart = {name for name, verdict in verdicts if verdict != "proved" and "; it calls" not in verdict} | broken
     return said + ["%s is refused too" % name for name in sorted(apart - {*owners})]
@@ -153,20 +153,61 @@ def without(log, whose):
     return [re.sub(r"^(fn \w+::%s: ).*" % whose, r"\1proved", line) for line in kept]
 
 
-def main():
-    said, count, edits = [], 0, sorted(CRATES.glob("*/must-fail/*.edit"))
+def edited(crate, wrongs):
+    """Each file that an edit changes, below its crate, with its text as the edit leaves it."""
+    texts = {}
+    for file, old, new in (change for wrong in wrongs for change in wrong.changes):
+        text = texts.get(file) or (CRATES / crate / file).read_text()
+        texts[file] = text.replace(old, new)
+    return texts
+
+
+def is_of(copy, crate, wrongs):
+    """Whether the copy of the crate that was checked is today's crate with just this edit."""
+    texts = edited(crate, wrongs)
+    for part in ("src", "specs", "proofs"):
+        here = {file.relative_to(CRATES / crate).as_posix() for file in (CRATES / crate / part).rglob("*.*")}
+        there = {file.relative_to(copy).as_posix() for file in (copy / part).rglob("*.*")}
+        if here != there:
+            return False
+        for file in here:
+            if (copy / file).read_text() != (texts.get(file) or (CRATES / crate / file).read_text()):
+                return False
+    return True
+
+
+def untried():
+    """Crates with public functions and no edit, edits of proofs, and edits whose name says something else than they hold."""
+    edits = sorted(CRATES.glob("*/must-fail/*.edit"))
+    tried = {edit.parts[-3] for edit in edits}
+    yield from ("%s: has public functions and no wrong answer" % crate for crate in sorted({crate for crate, *_ in public_functions()} - tried))
+    for edit in filter(stands_alone, edits):
+        if [wrong.name for wrong in wrong_answers(edit)] != [edit.stem]:
+            yield "%s/%s: is not the one wrong answer of its name" % (edit.parts[-3], edit.stem)
     for edit in edits:
-        crate, wrongs = edit.parts[-3], wrong_answers(edit)
-        file = LOGS / crate / edit.stem / ".log"
-        assert file.exists(), "no log of %s/%s: run rt ci first" % (crate, edit.stem)
-        log = file.read_text().splitlines()
-        said += ["%s/%s: %s" % (crate, edit.stem, fault) for fault in faults(crate, wrongs, log)]
+        proofs = [wrong.name for wrong in wrong_answers(edit) for file, *_ in wrong.changes if file.startswith("proofs/")]
+        yield from ("%s/%s: edits a proof, and nobody has to believe one" % (edit.parts[-3], name) for name in proofs)
+    for crate in sorted(tried):
+        every = [wrong.name for edit in edits if edit.parts[-3] == crate for wrong in wrong_answers(edit)]
+        yield from ("%s/%s: stands twice" % (crate, name) for name in sorted({name for name in every if every.count(name) > 1}))
+
+
+def main():
+    said, count, edits = list(untried()), 0, sorted(CRATES.glob("*/must-fail/*.edit"))
+    assert edits, "there are no must-fail edits"
+    for edit in edits:
+        crate, wrongs, alone = edit.parts[-3], wrong_answers(edit), stands_alone(edit)
+        copy = LOGS / crate / edit.stem
+        assert (copy / ".log").exists(), "no log of %s/%s: run rt ci first" % (crate, edit.stem)
+        assert is_of(copy, crate, wrongs), "the log of %s/%s is of another edit: run rt ci first" % (crate, edit.stem)
+        log = (copy / ".log").read_text().splitlines()
+        said += ["%s/%s: %s" % (crate, edit.stem, fault) for fault in faults(crate, wrongs, log, alone)]
         count += len(wrongs)
         # The check's own check: one that slipped through, and one that spoils what is another's, would be noticed.
-        for wrong in wrongs if len(wrongs) > 1 else []:
-            assert faults(crate, wrongs, without(log, wrong.whose)), "%s/%s is not looked for" % (crate, wrong.name)
+        for wrong in wrongs:
+            assert faults(crate, wrongs, without(log, wrong.whose), alone), "%s/%s is not looked for" % (crate, wrong.name)
             others = [other for other in wrongs if other is not wrong]
-            assert faults(crate, others, log), "%s/%s is not seen to spoil others" % (crate, wrong.name)
+            assert alone or faults(crate, others, log), "%s/%s is not seen to spoil others" % (crate, wrong.name)
     print("".join(fault + "\n" for fault in said) + "%d wrong answers in %d checks, %d faults" % (count, len(edits), len(said)))
     return 1 if said else 0
 

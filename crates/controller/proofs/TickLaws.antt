@@ -33,6 +33,7 @@ use Rattle.input.specs.Inputs.{memory, inputTurn}
 use Rattle.output.specs.Outputs.{outputTurn}
 use Rattle.controller.specs.Register.{anyFlagged, registered}
 use Rattle.controller.specs.Tick.{ticked}
+use Rattle.controller.specs.TickLaws.{Register-told, Math-off}
 use Rattle.controller.proofs.Kept.{Kept, Unseen, Clear, fixed-last, register-first, same, joined, all-keep, set-keeps, register-keeps, math-keeps, table-keeps, logic-keeps, output-keeps, input-keeps, own-turn, row-unseen, row-clear, held-kept}
 
 -- ---- the words that no block publishes
@@ -127,8 +128,7 @@ told u size =
     getD-set-same u (slot-of 0x1001 0) _ 0 (omega (arith, register-first, counted, kept 0 .size))
     ∙ sym (ap (λ (b : Bool). first b 0x21 0) (same-flags kept))
 
--- after a tick 1001h is 21h if one of the four flags is set, else 0
-pub register-told : (samples : List ℤ) (unit : List ℕ) → length unit ≡ unit-size → entry (ticked samples unit) 0x1001 0 ≡ first (anyFlagged (ticked samples unit)) 0x21 0
+pub register-told : Register-told
 register-told samples unit size =
     subst (λ (u : List ℕ). length u ≡ unit-size → entry u 0x1001 0 ≡ first (anyFlagged u) 0x21 0) (last samples unit) (told (driven samples unit))
     (length-kept samples unit ∙ size)
@@ -180,9 +180,9 @@ module _ (samples : List ℤ) (unit : List ℕ) (size : length unit ≡ unit-siz
       to-last samples unit free
       (own-turn logicTurn 2 k (λ j g other. logic-keeps free j g (row-clear r logics (j + 1) (λ e. other (omega arith)))) (tabled samples unit) 2 h (lit≤ tt)))
 
-  pub math-off : k < 4 → switched unit 0x4500 (k + 1) ≡ false → held (ticked samples unit) maths (k + 1) ≡ Absent
+  math-absent : k < 4 → switched unit 0x4500 (k + 1) ≡ false → held (ticked samples unit) maths (k + 1) ≡ Absent
   unfolding mathTurn mathSignal combined first switched has
-  math-off h off =
+  math-absent h off =
       let u = each k mathTurn (sensed samples unit) in
       let kept : Tame unit u = λ slot p. through-maths samples unit p k (omega arith) in
       math-own h
@@ -208,3 +208,6 @@ module _ (samples : List ℤ) (unit : List ℕ) (size : length unit ≡ unit-siz
       logic-own h
       ∙ laid-absent _ logics k _ (rw (same-byte kept 0x4000 (k + 1) (omega (arith, array 0x4000 refl k h, counted)), off) (names-nothing u 3 0 (inl refl)))
       (published-length _ _ _ _ ∙ published-length u _ _ _ ∙ kept 0 first-word .size ∙ size) (omega arith)
+
+pub math-off : Math-off
+math-off = math-absent

@@ -8,6 +8,7 @@ use mathlib.Core.Logic.{⊎-elim}
 use native.Mathlib.Omega.{arith}
 use lib.Dec.{eqb, ltb}
 use borrow.Author.Tests.{ltb-true, eqb-true}
+use Rattle.dictionary.specs.OneEach.{Names-apart, Slot-named, Slots-apart}
 use Rattle.dictionary.specs.Names.{Stretch, stretches, find, index-at, sub-at, words}
 use Rattle.dictionary.specs.declared.types.Found.the-variants.{NoIndex, At}
 use Rattle.dictionary.proofs.naming.NameLaws.{every, picked}
@@ -64,8 +65,7 @@ found-stands index sub slot e =
       sub-is = ap sub-at at ∙ eqb-true (sub-at (s .slot + k)) (s .from + k) (there .1) ∙ sum;
     }
 
--- "If two names fall together, a write meant for one breakpoint lands on another": two names that share a slot are one name
-pub names-apart : (i s j t slot : ℕ) → find i s ≡ At slot → find j t ≡ At slot → (i ≡ j) × (s ≡ t)
+pub names-apart : Names-apart
 names-apart i s j t slot e f =
     let a = found-stands i s slot e in
     let b = found-stands j t slot f in
@@ -75,12 +75,10 @@ each-found : tabulate words 0 (λ slot. find (index-at slot) (sub-at slot)) ≡ 
 unfolding tabulate find index-at sub-at words
 each-found = refl
 
--- every slot has a name, and by `names-apart` only one
-pub slot-named : (slot : ℕ) → slot < words → find (index-at slot) (sub-at slot) ≡ At slot
+pub slot-named : Slot-named
 slot-named = agree words (λ slot. find (index-at slot) (sub-at slot)) At NoIndex each-found
 
--- so two slots never share a name
-pub slots-apart : (k slot : ℕ) → k < words → slot < words → index-at k ≡ index-at slot → sub-at k ≡ sub-at slot → k ≡ slot
+pub slots-apart : Slots-apart
 slots-apart k slot h l i s =
     let one = slot-named k h in
     let other = slot-named slot l in

@@ -1,4 +1,5 @@
 pub mod Names
 pub mod Objects
+pub mod OneEach
 pub mod Rows
 pub mod Unit
