@@ -99,7 +99,7 @@ def of_law(crate, law):
     title, text = name[0].upper() + name[1:], file.read_text()
     statement = re.search(r"^abbrev pub %s :.*?\n(?=\n|\Z)" % title, text, re.M | re.S)
     if statement:
-        others = re.sub(r"^use .*$|^ *pub [\w-]+ : %s$" % title, "", everything(crate, "specs/*.antt"), flags=re.M)
+        others = re.sub(r"^use .*$|^ *pub [\w-]+ : %s$|--.*$" % title, "", everything(crate, "specs/*.antt"), flags=re.M)
         return [("specs/%s.antt" % module, statement[0])] if uses(others, title) == uses(statement[0], title) else []
     others = everything(crate, "src/**/*.rt") + everything(crate, "specs/*.antt")
     return [] if "specs.%s." % module in others else [("specs/%s.antt" % module, text)]
