@@ -92,17 +92,21 @@ def of_law(crate, law):
     """The text that is the law's alone, with its file below the crate, if there is any.
 
     That is its statement, which has the law's name with a capital, if no other definition uses it but as a whole field of a record that
-    gathers statements; or, where no statement has its name, the whole file of definitions, if no contract and no other definition leads there.
+    gathers statements. Where no statement has its name, it is the line among the laws that says what it claims, and the whole file of
+    definitions, if no contract and no other definition leads there.
     """
     module, name = law.split(".")
     file = CRATES / crate / "specs" / (module + ".antt")
-    title, text = name[0].upper() + name[1:], file.read_text()
+    title, text = name[0].upper() + name[1:], file.read_text() if file.exists() else ""
     statement = re.search(r"^abbrev pub %s :.*?\n(?=\n|\Z)" % title, text, re.M | re.S)
     if statement:
         others = re.sub(r"^use .*$|^ *pub [\w-]+ : %s$|--.*$" % title, "", everything(crate, "specs/*.antt"), flags=re.M)
         return [("specs/%s.antt" % module, statement[0])] if uses(others, title) == uses(statement[0], title) else []
+    own = []
+    for laws in (CRATES / crate / "proofs").rglob(module + ".antt"):
+        own += [(laws.relative_to(CRATES / crate).as_posix(), line) for line in re.findall(r"^ *pub %s : .*$" % name, laws.read_text(), re.M)]
     others = everything(crate, "src/**/*.rt") + everything(crate, "specs/*.antt")
-    return [] if "specs.%s." % module in others else [("specs/%s.antt" % module, text)]
+    return own if "specs.%s." % module in others else [*own, ("specs/%s.antt" % module, text)]
 
 
 def stand(changes, file, text):
@@ -177,16 +181,16 @@ def is_of(copy, crate, wrongs):
 
 
 def untried():
-    """Crates with public functions and no edit, edits of proofs, and edits whose name says something else than they hold."""
+    """Crates with public functions and no edit, edits of more in a proof than what a law claims, and edits whose name says something else
+    than they hold."""
     edits = sorted(CRATES.glob("*/must-fail/*.edit"))
     tried = {edit.parts[-3] for edit in edits}
     yield from ("%s: has public functions and no wrong answer" % crate for crate in sorted({crate for crate, *_ in public_functions()} - tried))
     for edit in filter(stands_alone, edits):
         if [wrong.name for wrong in wrong_answers(edit)] != [edit.stem]:
             yield "%s/%s: is not the one wrong answer of its name" % (edit.parts[-3], edit.stem)
-    for edit in edits:
-        proofs = [wrong.name for wrong in wrong_answers(edit) for file, *_ in wrong.changes if file.startswith("proofs/")]
-        yield from ("%s/%s: edits a proof, and nobody has to believe one" % (edit.parts[-3], name) for name in proofs)
+        if any(file.startswith("proofs/") for wrong in wrong_answers(edit) for file, *_ in wrong.changes):
+            yield "%s/%s: edits a proof, and nobody has to believe one" % (edit.parts[-3], edit.stem)
     for crate in sorted(tried):
         every = [wrong.name for edit in edits if edit.parts[-3] == crate for wrong in wrong_answers(edit)]
         yield from ("%s/%s: stands twice" % (crate, name) for name in sorted({name for name in every if every.count(name) > 1}))
