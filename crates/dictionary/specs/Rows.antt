@@ -74,7 +74,7 @@ unfoldable pub condition : ℕ → Value
 condition sub =
     first (eqb sub 1) source (first (eqb sub 2) number (first (eqb sub 3) source (first (eqb sub 4) number (u8 0 5 0))))
 
--- "30z4h:1-11 | :1 axis type u8 0..0 = 0; :2-11 response u8 0..2 = 1"
+-- "axis type u8 0..0 = 0", "response u8 0..2 = 1"
 unfoldable pub axis-or-response : ℕ → Value
 axis-or-response sub = first (eqb sub 1) (u8 0 0 0) (u8 0 2 1)
 
@@ -93,56 +93,77 @@ conditions x =
     each (1 ∷ 2 ∷ 3 ∷ []) (λ c.
     array-by (0x4000 + 0x100 * x + table + c) 5 condition ∷ []))
 
--- "30z0h .. 30z6h, z=1..6"
 unfoldable pub tables : List Row
 tables =
     each (1 ∷ 2 ∷ 3 ∷ 4 ∷ 5 ∷ 6 ∷ []) (λ z.
+    -- "30z0h, 30z1h (VAR, z=1..6) | X source u8 0..6 = 0; number u8 0..15 = 0"
     var (0x3000 + 0x10 * z) source ∷
     var (0x3001 + 0x10 * z) number ∷
+    -- "30z2h, 30z3h (VAR) | X, Y digits D"
     var (0x3002 + 0x10 * z) D ∷
     var (0x3003 + 0x10 * z) D ∷
+    -- "30z4h:1-11 | :1 axis type u8 0..0 = 0; :2-11 response u8 0..2 = 1"
     array-by (0x3004 + 0x10 * z) 11 axis-or-response ∷
+    -- "30z5h, 30z6h :1-11 | X, Y: i16 = 0, 100, .. 1000"
     array-by (0x3005 + 0x10 * z) 11 point ∷
     array-by (0x3006 + 0x10 * z) 11 point ∷ [])
 
--- "4x01h .. 4x33h, x=1..2": the tables are 1, 2, 3 and 4, 5, 6
 unfoldable pub logics : List Row
 logics =
     each (1 ∷ 2 ∷ []) (λ x.
+    -- "4x01h:1-3 (x=1..2) | table for A, B, C: u8 1..6 = 1,2,3 and 4,5,6"
     array-by (0x4001 + 0x100 * x) 3 (λ sub. u8 1 6 (3 * (x - 1) + sub)) ∷
+    -- "4x02h:1-3 | operator u8 0..4 = 1,1,0"
     array-by (0x4002 + 0x100 * x) 3 operator ∷
+    -- "4x11h-13h, 21h-23h, 31h-33h :1-5 | condition"
     conditions x)
 
--- "4y00h .. 4y50h, y=6..9 for math 1..4"
 unfoldable pub maths : List Row
 maths =
     each (6 ∷ 7 ∷ 8 ∷ 9 ∷ []) (λ y.
+    -- "4y00h, 4y01h, 4y02h, 4y20h, 4y22h, 4y40h :1-4 (y=6..9 for math 1..4) | source 0..6 = 0, number 0..15 = 0, D, scaling 1, 2 i16 = 0, 1000, gain i16 -100..100 = 100"
     array (0x4000 + 0x100 * y) 4 source ∷
     array (0x4001 + 0x100 * y) 4 number ∷
     array (0x4002 + 0x100 * y) 4 D ∷
     array (0x4020 + 0x100 * y) 4 (i16 0) ∷
     array (0x4022 + 0x100 * y) 4 (i16 1000) ∷
     array (0x4040 + 0x100 * y) 4 (i16-between (negsuc 99) (pos 100) 100) ∷
+    -- "4y50h:1-3 | operator u8 0..5 = 0"
     array (0x4050 + 0x100 * y) 3 (u8 0 5 0) ∷ [])
 
--- the configuration rows
+-- "Configuration entries", each row below its line in the paper
 unfoldable pub configuration : List Row
 configuration =
+    -- "2502h:1-12, 2520h, 2522h | EC digits D; scaling 1, 2: i16 = 0, 1000"
     array 0x2502 12 D ∷ array 0x2520 12 (i16 0) ∷ array 0x2522 12 (i16 1000) ∷
+    -- "6132h:1-4 | input digits D"
     array 0x6132 4 D ∷
+    -- "7120h, 7121h, 7122h, 7123h :1-4 | FV1, PV1, FV2, PV2: i16 = 500, 0, 4500, 1000"
     array 0x7120 4 (i16 500) ∷ array 0x7121 4 (i16 0) ∷ array 0x7122 4 (i16 4500) ∷ array 0x7123 4 (i16 1000) ∷
+    -- "7148h, 7149h :1-4 | span start, end: i16 = 0, 5000"
     array 0x7148 4 (i16 0) ∷ array 0x7149 4 (i16 5000) ∷
+    -- "2110h, 2111h, 2112h :1-4 | detect u8 0..1 = 1; hysteresis i16 0..32767 = 100; delay u16 0..60000 ms = 1000"
     array 0x2110 4 (u8 0 1 1) ∷ array 0x2111 4 (i16-between (pos 0) (pos 32767) 100) ∷ array 0x2112 4 (u16 0 60000 1000) ∷
+    -- 30z0h to 30z6h
     tables ++
+    -- "4000h:1-2 | logic enable u8 0..1 = 0"
     array 0x4000 2 (u8 0 1 0) ∷
+    -- 4x01h to 4x33h
     logics ++
+    -- "4500h, 4521h, 4523h, 4532h :1-4 | math enable u8 0..1 = 0; scaling 1, 2 PV i16 = 0, 1000; digits D"
     array 0x4500 4 (u8 0 1 0) ∷ array 0x4521 4 (i16 0) ∷ array 0x4523 4 (i16 1000) ∷ array 0x4532 4 D ∷
+    -- 4y00h to 4y50h
     maths ++
+    -- "5010h:3-15 | constant REAL32, finite = 0"
     record { index = 0x5010; from = 3; to = 15; holds = λ sub. real32 0 } ∷
+    -- "6302h, 7320h, 7322h, 7321h, 7323h :1-4 | D; PV1, PV2 i16 = 0, 1000; FV1, FV2 i16 0..2500 mA = 0, 1500"
     array 0x6302 4 D ∷ array 0x7320 4 (i16 0) ∷ array 0x7322 4 (i16 1000) ∷
     array 0x7321 4 (i16-between (pos 0) (pos 2500) 0) ∷ array 0x7323 4 (i16-between (pos 0) (pos 2500) 1500) ∷
+    -- "6340h, 7341h, 2300h :1-4 | fault mode u8 0..1 = 1; fault FV, override FV i16 0..2500 = 0, 2000"
     array 0x6340 4 (u8 0 1 1) ∷ array 0x7341 4 (i16-between (pos 0) (pos 2500) 0) ∷ array 0x2300 4 (i16-between (pos 0) (pos 2500) 2000) ∷
+    -- "2330h, 2331h :1-4 | ramp up, down u16 0..60000 ms = 1000"
     array 0x2330 4 (u16 0 60000 1000) ∷ array 0x2331 4 (u16 0 60000 1000) ∷
+    -- "2340h, 2341h, 2350h, 2351h, 2352h, 2360h, 2361h, 2362h :1-4 | control, enable, override: source 0..6, number 0..15, and response 0..1 for the last two; u8 = 0"
     array 0x2340 4 source ∷ array 0x2341 4 number ∷
     array 0x2350 4 source ∷ array 0x2351 4 number ∷ array 0x2352 4 (u8 0 1 0) ∷
     array 0x2360 4 source ∷ array 0x2361 4 number ∷ array 0x2362 4 (u8 0 1 0) ∷ []

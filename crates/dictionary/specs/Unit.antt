@@ -4,17 +4,18 @@ use Prim.Native.Nat.{ℕ, _+_, _-_, _*_}
 use mathlib.Core.List.{List, [], _∷_}
 use Rattle.dictionary.specs.Names.{slot-of, configured, writable, words}
 
--- of each of the 16 blocks (inputs 1-4, math 1-4, tables 1-6, logic 1-2) its signal as two words, kind and number
+-- of each of the 16 blocks (inputs 1-4, math 1-4, tables 1-6, logic 1-2) its signal as two words, kind and number: "A block that reads a later
+-- block, or itself, sees the last tick's signal"
 unfoldable pub signals-at : ℕ
 unfolding words
 signals-at = words
 
--- of each input the run of out ticks
+-- of each input "the run of out ticks"
 unfoldable pub runs-at : ℕ
 unfolding signals-at
 runs-at = signals-at + 2 * 16
 
--- of each input whether it is flagged
+-- of each input whether it is "flagged"
 unfoldable pub flags-at : ℕ
 unfolding runs-at
 flags-at = runs-at + 4

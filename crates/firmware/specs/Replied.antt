@@ -9,6 +9,7 @@ use Rattle.sdo.specs.Answers.{answer}
 use Rattle.sdo.specs.Frames.{reply-to}
 use Rattle.sdo.specs.Served.{after, filled}
 
+-- "A reply fills the buffer's first 8 bytes only"; "no reply, buffer untouched"
 pub record Replied (unit frame reply unit′ reply′ : List ℕ) (r : ℤ) : Type 0 where
   pub state : unit′ ≡ after unit (answer unit frame (length reply))
   pub bytes : reply′ ≡ filled reply frame (answer unit frame (length reply))

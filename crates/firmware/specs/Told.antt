@@ -15,12 +15,12 @@ use Rattle.image.specs.Reading.{reading}
 use Rattle.image.specs.Loaded.{loaded}
 use Rattle.image.specs.Told.{told}
 
--- as `Written`, with the number in the outcome's place
+-- "8: the writer's buffer is under 5,207": as `Written`, with the number in the outcome's place
 pub record ToldSaved (unit image image′ : List ℕ) (r : ℤ) : Type 0 where
   pub answered : r ≡ told (first (ltb (length image) image-size) (Refused NoRoom) Good)
   pub bytes : image′ ≡ first (ltb (length image) image-size) image (image-of unit ++ drop image-size image)
 
--- as `Loaded`, the same way
+-- "Readings refuse .. A refusal writes nothing": as `Loaded`, the same way
 pub record ToldLoaded (unit image unit′ : List ℕ) (r : ℤ) : Type 0 where
   pub answered : r ≡ told (reading image)
   pub state : unit′ ≡ loaded image unit (reading image)

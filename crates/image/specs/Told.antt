@@ -4,6 +4,6 @@ use lib.IntN.{ℤ, pos, negℤ}
 use Rattle.records.specs.Walk.{outcome-number}
 use Rattle.records.specs.declared.types.Outcome.{Outcome}
 
--- 0, or the paper's number of the refusal, below zero
+-- 0, or below zero the number by which "Readings refuse"
 unfoldable pub told : Outcome → ℤ
 told r = negℤ (pos (outcome-number r))

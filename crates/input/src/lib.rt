@@ -35,7 +35,7 @@ pub struct Sensed {
     pub reads: i16,
 }
 
-// The largest delay + 1: a longer run tells nothing more.
+// One more than any delay that two bytes can hold: a longer run tells nothing more.
 const LONGEST: u32 = 65536;
 
 fn is_within(low: i32, v: i32, high: i32) -> bool

@@ -3,7 +3,7 @@
 use mathlib.Core.Bool.{Bool, true, false, _&&_}
 use mathlib.Core.List.{List, [], _∷_}
 
--- a table of rules in order
+-- a table of rules in order, "First match"
 unfoldable pub first : {A : Type 0} → Bool → A → A → A
 first true answer rest = answer
 first false answer rest = rest

@@ -1,4 +1,4 @@
--- Looking a name up: the data of its record, as it stands.
+-- Looking a name up: "The bytes of one record's value are handed on as they stand in the image."
 -- Assumes nothing.
 use Prim.Native.Nat.{ℕ, zero, suc, _+_}
 use mathlib.Core.Bool.{_&&_}
