@@ -7,17 +7,19 @@ use mathlib.Core.Path.{_≡_, refl, sym, ap, _∙_, subst}
 use native.Mathlib.Nat.{eq-or-lt-of-le, le-of-suc-le-suc}
 use native.Mathlib.Numerals.{add-one}
 use native.Mathlib.Omega.{arith}
-use lib.Dec.{lit<}
+use borrow.Author.Tests.{lt-ltb, le-ltb}
+use lib.Dec.{ltb, lit<}
 use lib.IntN.{ℤ}
 use lib.ListN.{length, getD, set, length-set}
 use lib.Seq.{getD-set-other}
+use Rattle.numbers.specs.Choice.{first}
 use Rattle.signals.specs.declared.signal.Signal.{Signal}
 use Rattle.dictionary.specs.Names.{slot-of, writable, words}
-use Rattle.dictionary.specs.Unit.{signals-at, runs-at, flags-at}
+use Rattle.dictionary.specs.Unit.{runs-at, flags-at}
 use Rattle.dictionary.proofs.naming.NameLaws.{counted}
 use Rattle.unit.specs.Each.{each}
 use Rattle.unit.specs.Entry.{publish}
-use Rattle.unit.specs.Held.{inputs, maths, tables, logics, place, lay, held, at-row}
+use Rattle.unit.specs.Held.{inputs, maths, tables, logics, blocks, place, lay, held, at-row}
 use Rattle.unit.proofs.Each.{more, each-keeps}
 use Rattle.unit.proofs.HeldLaws.{laid-length, laid-other}
 use Rattle.unit.proofs.Slots.{has, have, array, var, table-value, fixed-constant}
@@ -35,17 +37,15 @@ pub record Kept (slot : ℕ) (u v : List ℕ) : Type 0 where
 
 -- ---- where a tick sets words
 
--- the names that blocks publish stand behind what can be written, up to 5010h:1
-abbrev pub Published : ℕ → ℕ → Type 0
-Published index sub = (writable ≤ slot-of index sub) × (slot-of index sub < slot-of 0x5010 1)
-
--- a slot that is none of these
-abbrev pub Unseen : ℕ → Type 0
-Unseen slot = (at : ℕ) → writable ≤ at → at < slot-of 0x5010 1 → slot ≡ at → ⊥
-
--- a slot that is neither of the two where a block's signal stands
-abbrev pub Clear : ℕ → ℕ → ℕ → Type 0
-Clear slot kind n = (slot ≡ place (kind + (n - 1)) → ⊥) × (slot ≡ place (kind + (n - 1)) + 1 → ⊥)
+-- the slots where the block at a row publishes; rows 16 to 19 are the outputs
+pub data Publishes : ℕ → ℕ → Type 0 where
+  sampled : (k : ℕ) → k < 4 → Publishes (inputs + k) (slot-of 0x7100 (k + 1))
+  processed : (k : ℕ) → k < 4 → Publishes (inputs + k) (slot-of 0x7130 (k + 1))
+  calculated : (k : ℕ) → k < 4 → Publishes (maths + k) (slot-of 0x4530 (k + 1))
+  looked-up : (k : ℕ) → k < 6 → Publishes (tables + k) (slot-of (of-table 0x3007 (k + 1)) 0)
+  selected : (k : ℕ) → k < 2 → Publishes (logics + k) (slot-of 0x4010 (k + 1))
+  passed-on : (k : ℕ) → k < 2 → Publishes (logics + k) (slot-of 0x4020 (k + 1))
+  commanded : (k : ℕ) → k < 4 → Publishes (blocks + k) (slot-of 0x7330 (k + 1))
 
 -- 5010h:1-2 are the last of the dictionary's words
 pub fixed-last : slot-of 0x5010 1 + 2 ≡ words
@@ -55,6 +55,36 @@ fixed-last = omega (arith, fixed-constant refl 1 (lit< tt) (lit< tt), counted .2
 pub register-first : slot-of 0x1001 0 ≡ writable
 unfolding has
 register-first = var 0x1001 refl ∙ sym (counted .1)
+
+-- the row that publishes at a slot, by the slot's distance from 1001h: 7100h, 7130h, 30z7h and 4010h, 4020h, 4530h, 7330h
+unfoldable pub owner : ℕ → ℕ
+owner n = first (ltb n 5) (n - 1) (first (ltb n 9) (n - 5) (first (ltb n 17) (n - 1) (first (ltb n 19) (n - 3) (first (ltb n 23) (n - 15) (n - 7)))))
+
+-- blocks publish behind 1001h and before 5010h:1, each where no other does
+pub record Stands (row at : ℕ) : Type 0 where
+  pub low : slot-of 0x1001 0 < at
+  pub high : at < slot-of 0x5010 1
+  pub owned : owner (at - slot-of 0x1001 0) ≡ row
+
+-- a slot n behind 1001h
+behind : (n : ℕ) {row at : ℕ} → at ≡ slot-of 0x1001 0 + n → 0 < n → n < 27 → owner n ≡ row → Stands row at
+behind n {row} {at} e low high own =
+    let far : at - slot-of 0x1001 0 ≡ n = omega arith in
+    record { low = omega arith; high = omega (arith, fixed-last, register-first, counted); owned = ap owner far ∙ own }
+
+pub stands : {row at : ℕ} → Publishes row at → Stands row at
+unfolding owner first has have
+stands (sampled k h) = behind (1 + k) (omega (arith, array 0x7100 refl k h, register-first, counted)) (omega arith) (omega arith) (rw (lt-ltb (1 + k) 5 (omega arith)) (omega arith))
+stands (processed k h) = behind (5 + k) (omega (arith, array 0x7130 refl k h, register-first, counted)) (omega arith) (omega arith) (rw (le-ltb (5 + k) 5 (omega arith), lt-ltb (5 + k) 9 (omega arith)) (omega arith))
+stands (calculated k h) = behind (19 + k) (omega (arith, array 0x4530 refl k h, register-first, counted)) (omega arith) (omega arith) (rw (le-ltb (19 + k) 5 (omega arith), le-ltb (19 + k) 9 (omega arith), le-ltb (19 + k) 17 (omega arith), le-ltb (19 + k) 19 (omega arith), lt-ltb (19 + k) 23 (omega arith)) (omega arith))
+stands (looked-up k h) = behind (9 + k) (omega (arith, table-value 0x3007 refl k h, register-first, counted)) (omega arith) (omega arith) (rw (le-ltb (9 + k) 5 (omega arith), le-ltb (9 + k) 9 (omega arith), lt-ltb (9 + k) 17 (omega arith)) (omega arith))
+stands (selected k h) = behind (15 + k) (omega (arith, array 0x4010 refl k h, register-first, counted)) (omega arith) (omega arith) (rw (le-ltb (15 + k) 5 (omega arith), le-ltb (15 + k) 9 (omega arith), lt-ltb (15 + k) 17 (omega arith)) (omega arith))
+stands (passed-on k h) = behind (17 + k) (omega (arith, array 0x4020 refl k h, register-first, counted)) (omega arith) (omega arith) (rw (le-ltb (17 + k) 5 (omega arith), le-ltb (17 + k) 9 (omega arith), le-ltb (17 + k) 17 (omega arith), lt-ltb (17 + k) 19 (omega arith)) (omega arith))
+stands (commanded k h) = behind (23 + k) (omega (arith, array 0x7330 refl k h, register-first, counted)) (omega arith) (omega arith) (rw (le-ltb (23 + k) 5 (omega arith), le-ltb (23 + k) 9 (omega arith), le-ltb (23 + k) 17 (omega arith), le-ltb (23 + k) 19 (omega arith), le-ltb (23 + k) 23 (omega arith)) (omega arith))
+
+-- a slot that is neither of the two where a block's signal stands
+abbrev pub Clear : ℕ → ℕ → ℕ → Type 0
+Clear slot kind n = (slot ≡ place (kind + (n - 1)) → ⊥) × (slot ≡ place (kind + (n - 1)) + 1 → ⊥)
 
 -- ---- one set after the other
 
@@ -71,49 +101,45 @@ module _ {slot : ℕ} where
   pub set-keeps : (u : List ℕ) (at word : ℕ) → (slot ≡ at → ⊥) → Kept slot u (set u at word)
   set-keeps u at word other = record { word = getD-set-other u at slot word 0 other; size = length-set u at word }
 
-  lay-keeps : (u : List ℕ) (kind n : ℕ) (s : Signal) → Clear slot kind n → Kept slot u (lay u kind n s)
+  pub lay-keeps : (u : List ℕ) (kind n : ℕ) (s : Signal) → Clear slot kind n → Kept slot u (lay u kind n s)
   unfolding lay
   lay-keeps u kind n s clear =
       record { word = laid-other u (kind + (n - 1)) s slot (clear .0) (clear .1); size = laid-length u (kind + (n - 1)) s }
 
-  module _ (unseen : Unseen slot) where
-    publish-keeps : (u : List ℕ) (index sub word : ℕ) → Published index sub → Kept slot u (publish u index sub word)
-    unfolding publish
-    publish-keeps u index sub word p = set-keeps u (slot-of index sub) word (unseen (slot-of index sub) (p .0) (p .1))
+  pub publish-keeps : (u : List ℕ) (index sub word : ℕ) → (slot ≡ slot-of index sub → ⊥) → Kept slot u (publish u index sub word)
+  unfolding publish
+  publish-keeps u index sub word = set-keeps u (slot-of index sub) word
 
-    pub register-keeps : (u : List ℕ) → Kept slot u (registered u)
-    unfolding registered
-    register-keeps u = publish-keeps u 0x1001 0 _ (omega (arith, register-first, fixed-last, counted))
+  pub register-keeps : (slot ≡ slot-of 0x1001 0 → ⊥) → (u : List ℕ) → Kept slot u (registered u)
+  unfolding registered
+  register-keeps other u = publish-keeps u 0x1001 0 _ other
 
-    module _ (k : ℕ) where
-      pub math-keeps : k < 4 → Clear slot maths (k + 1) → (u : List ℕ) → Kept slot u (mathTurn (k + 1) u)
-      unfolding mathTurn has
-      math-keeps h clear u = joined (publish-keeps u 0x4530 (k + 1) _ (omega (arith, array 0x4530 refl k h, fixed-last, counted))) (lay-keeps _ maths (k + 1) _ clear)
+  module _ (k : ℕ) where
+    pub math-keeps : (slot ≡ slot-of 0x4530 (k + 1) → ⊥) → Clear slot maths (k + 1) → (u : List ℕ) → Kept slot u (mathTurn (k + 1) u)
+    unfolding mathTurn
+    math-keeps other clear u = joined (publish-keeps u 0x4530 (k + 1) _ other) (lay-keeps _ maths (k + 1) _ clear)
 
-      pub table-keeps : k < 6 → Clear slot tables (k + 1) → (u : List ℕ) → Kept slot u (tableTurn (k + 1) u)
-      unfolding tableTurn have
-      table-keeps h clear u = joined (publish-keeps u (of-table 0x3007 (k + 1)) 0 _ (omega (arith, table-value 0x3007 refl k h, fixed-last, counted))) (lay-keeps _ tables (k + 1) _ clear)
+    pub table-keeps : (slot ≡ slot-of (of-table 0x3007 (k + 1)) 0 → ⊥) → Clear slot tables (k + 1) → (u : List ℕ) → Kept slot u (tableTurn (k + 1) u)
+    unfolding tableTurn
+    table-keeps other clear u = joined (publish-keeps u (of-table 0x3007 (k + 1)) 0 _ other) (lay-keeps _ tables (k + 1) _ clear)
 
-      pub logic-keeps : k < 2 → Clear slot logics (k + 1) → (u : List ℕ) → Kept slot u (logicTurn (k + 1) u)
-      unfolding logicTurn has
-      logic-keeps h clear u =
-          joined (publish-keeps u 0x4010 (k + 1) _ (omega (arith, array 0x4010 refl k h, fixed-last, counted)))
-          (joined (publish-keeps _ 0x4020 (k + 1) _ (omega (arith, array 0x4020 refl k h, fixed-last, counted)))
-          (lay-keeps _ logics (k + 1) _ clear))
+    pub logic-keeps : (slot ≡ slot-of 0x4010 (k + 1) → ⊥) → (slot ≡ slot-of 0x4020 (k + 1) → ⊥) → Clear slot logics (k + 1) → (u : List ℕ) → Kept slot u (logicTurn (k + 1) u)
+    unfolding logicTurn
+    logic-keeps other another clear u = joined (publish-keeps u 0x4010 (k + 1) _ other) (joined (publish-keeps _ 0x4020 (k + 1) _ another) (lay-keeps _ logics (k + 1) _ clear))
 
-      pub output-keeps : k < 4 → (u : List ℕ) → Kept slot u (outputTurn (k + 1) u)
-      unfolding outputTurn has
-      output-keeps h u = publish-keeps u 0x7330 (k + 1) _ (omega (arith, array 0x7330 refl k h, fixed-last, counted))
+    pub output-keeps : (slot ≡ slot-of 0x7330 (k + 1) → ⊥) → (u : List ℕ) → Kept slot u (outputTurn (k + 1) u)
+    unfolding outputTurn
+    output-keeps other u = publish-keeps u 0x7330 (k + 1) _ other
 
-      -- an input's signal, run and flag stand behind the dictionary's words
-      pub input-keeps : k < 4 → slot < words → (sample : ℤ) (u : List ℕ) → Kept slot u (inputTurn sample (k + 1) u)
-      unfolding inputTurn remember place has flags-at runs-at signals-at
-      input-keeps h low sample u =
-          joined (publish-keeps u 0x7100 (k + 1) _ (omega (arith, array 0x7100 refl k h, fixed-last, counted)))
-          (joined (publish-keeps _ 0x7130 (k + 1) _ (omega (arith, array 0x7130 refl k h, fixed-last, counted)))
-          (joined (lay-keeps _ inputs (k + 1) _ (λ e. omega arith, λ e. omega arith))
-          (joined (set-keeps _ (runs-at + (k + 1 - 1)) _ (λ e. omega arith))
-          (set-keeps _ (flags-at + (k + 1 - 1)) _ (λ e. omega arith)))))
+    pub input-keeps : (slot ≡ slot-of 0x7100 (k + 1) → ⊥) → (slot ≡ slot-of 0x7130 (k + 1) → ⊥) → Clear slot inputs (k + 1)
+        → (slot ≡ runs-at + k → ⊥) × (slot ≡ flags-at + k → ⊥) → (sample : ℤ) (u : List ℕ) → Kept slot u (inputTurn sample (k + 1) u)
+    unfolding inputTurn remember
+    input-keeps other another clear memory sample u =
+        joined (publish-keeps u 0x7100 (k + 1) _ other)
+        (joined (publish-keeps _ 0x7130 (k + 1) _ another)
+        (joined (lay-keeps _ inputs (k + 1) _ clear)
+        (joined (set-keeps _ (runs-at + (k + 1 - 1)) _ (λ e. memory .0 (omega arith)))
+        (set-keeps _ (flags-at + (k + 1 - 1)) _ (λ e. memory .1 (omega arith))))))
 
 -- ---- a slot that only one block of a phase touches: after the phase it is as that block's own turn left it
 
@@ -133,17 +159,12 @@ pub record Of-row (row slot : ℕ) : Type 0 where
   pub low : place row ≤ slot
   pub high : slot ≤ place row + 1
 
--- no block publishes there, and no other row has them
-pub row-unseen : {row slot : ℕ} → Of-row row slot → Unseen slot
-unfolding place signals-at
-row-unseen r at a b e = omega (arith, r .low, fixed-last)
-
-pub row-clear : {row slot : ℕ} → Of-row row slot → (kind n : ℕ) → (row ≡ kind + (n - 1) → ⊥) → Clear slot kind n
-unfolding place
-row-clear r kind n other = (λ e. other (omega (arith, r .low, r .high)), λ e. other (omega (arith, r .low, r .high)))
-
 -- a signal is as it was where they are
-pub held-kept : {u v : List ℕ} (kind n : ℕ) → ((slot : ℕ) → Of-row (kind + (n - 1)) slot → Kept slot u v) → held v kind n ≡ held u kind n
-unfolding held at-row
-held-kept kind n kept = let at = place (kind + (n - 1)) in
+pub row-kept : {u v : List ℕ} (row : ℕ) → ((slot : ℕ) → Of-row row slot → Kept slot u v) → at-row v row ≡ at-row u row
+unfolding at-row
+row-kept row kept = let at = place row in
     rw (kept at (record { low = omega arith; high = omega arith }) .word, kept (at + 1) (record { low = omega arith; high = omega arith }) .word)
+
+pub held-kept : {u v : List ℕ} (kind n : ℕ) → ((slot : ℕ) → Of-row (kind + (n - 1)) slot → Kept slot u v) → held v kind n ≡ held u kind n
+unfolding held
+held-kept kind n = row-kept (kind + (n - 1))

@@ -1,2 +1,9 @@
+pub mod Commands
 pub mod Kept
+pub mod Numbers
+pub mod Reals
+pub mod Saw
+pub mod Seen
+pub mod Shown
 pub mod TickLaws
+pub mod Turns

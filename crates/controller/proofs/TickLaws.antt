@@ -11,6 +11,7 @@ use lib.IntN.{ℤ, pos}
 use lib.ListN.{length, getD, set, length-set}
 use lib.Seq.{getD-set-same}
 use Rattle.numbers.specs.Choice.{first}
+use Rattle.numbers.specs.Signed.{signed16}
 use Rattle.signals.specs.declared.signal.Signal.{Signal}
 use Rattle.signals.specs.declared.signal.Signal.the-variants.{Absent}
 use Rattle.signals.proofs.keeping.WordLaws as two-words
@@ -19,22 +20,26 @@ use Rattle.dictionary.specs.Unit.{signals-at, runs-at, flags-at, unit-size}
 use Rattle.dictionary.proofs.naming.NameLaws.{counted}
 use Rattle.math.specs.Math.{combined}
 use Rattle.table.specs.Table.{lookedUp}
-use Rattle.unit.specs.Each.{each}
-use Rattle.unit.specs.Entry.{entry, byte, switched, publish}
+use Rattle.unit.specs.Entry.{entry, whole, byte, switched, publish}
 use Rattle.unit.specs.Extent.{extent}
-use Rattle.unit.specs.Held.{maths, tables, logics, place, held, lay}
+use Rattle.unit.specs.Held.{inputs, maths, tables, logics, place, held, lay}
 use Rattle.unit.proofs.HeldLaws.{laid-down}
-use Rattle.unit.proofs.Slots.{has, have, array, table-var}
+use Rattle.unit.proofs.Slots.{has, have, array, table-var, math-array}
+use Rattle.unit.specs.Sources.{sourced}
 use Rattle.unit.proofs.sources.SourceLaws.{Nothing, names-nothing}
-use Rattle.math.specs.Maths.{mathSignal, mathTurn}
+use Rattle.math.specs.Maths.{of-math, mathSignal, mathTurn}
 use Rattle.table.specs.Tables.{of-table, tableSignal, tableTurn}
 use Rattle.logic.specs.Logics.{chosen, logicTurn}
-use Rattle.input.specs.Inputs.{memory, inputTurn}
-use Rattle.output.specs.Outputs.{outputTurn}
+use Rattle.input.specs.Inputs.{settings, memory, remember, inputTurn}
+use Rattle.input.specs.Input.{sensed}
+use Rattle.input.specs.declared.Memory.{Memory}
 use Rattle.controller.specs.Register.{anyFlagged, registered}
 use Rattle.controller.specs.Tick.{ticked}
 use Rattle.controller.specs.TickLaws.{Register-told, Math-off}
-use Rattle.controller.proofs.Kept.{Kept, Unseen, Clear, fixed-last, register-first, same, joined, all-keep, set-keeps, register-keeps, math-keeps, table-keeps, logic-keeps, output-keeps, input-keeps, own-turn, row-unseen, row-clear, held-kept}
+use Rattle.controller.specs.Turns.{at-turn}
+use Rattle.controller.proofs.Kept.{Kept, Publishes, stands, fixed-last, register-first, joined, set-keeps, register-keeps, held-kept}
+use Rattle.controller.proofs.Numbers.{Rising, input-number, math-number, table-number, sourced-kept}
+use Rattle.controller.proofs.Turns.{Spared, until, to-last, all-turns, input-own, math-own, table-own, logic-own}
 
 -- ---- the words that no block publishes
 
@@ -43,75 +48,40 @@ pub data Unpublished : ℕ → Type 0 where
   before : {slot : ℕ} → slot < writable → Unpublished slot
   after : {slot : ℕ} → slot-of 0x5010 1 ≤ slot → slot < words → Unpublished slot
 
-unseen : {slot : ℕ} → Unpublished slot → Unseen slot
-unseen (before h) at low high e = omega arith
-unseen (after h g) at low high e = omega arith
-
 in-words : {slot : ℕ} → Unpublished slot → slot < words
 in-words (before h) = omega (arith, counted)
 in-words (after h g) = g
 
-clear : {slot : ℕ} → Unpublished slot → (kind n : ℕ) → Clear slot kind n
-unfolding place signals-at
-clear u kind n = let h = in-words u in (λ e. omega arith, λ e. omega arith)
+no-register : {slot : ℕ} → Unpublished slot → slot ≡ slot-of 0x1001 0 → ⊥
+no-register (before h) e = omega (arith, register-first)
+no-register (after h g) e = omega (arith, register-first, fixed-last, counted)
 
-first-word : Unpublished 0
+apart : {slot : ℕ} → Unpublished slot → (row at : ℕ) → Publishes row at → slot ≡ at → ⊥
+apart (before h) row at p e = omega (arith, stands p, register-first)
+apart (after h g) row at p e = omega (arith, stands p)
+
+spared : {slot : ℕ} → Unpublished slot → (j : ℕ) → Spared slot j
+unfolding place signals-at runs-at flags-at
+spared u j = let h = in-words u in record { unpublished = apart u j; memory = λ l. (λ e. omega arith, λ e. omega arith); signal = λ l. (λ e. omega arith, λ e. omega arith) }
+
+pub first-word : Unpublished 0
 first-word = before {slot = 0} (omega (arith, counted))
 
 -- all of them are kept
 abbrev Tame : List ℕ → List ℕ → Type 0
 Tame u v = (slot : ℕ) → Unpublished slot → Kept slot u v
 
--- ---- the phases
-
 module _ (samples : List ℤ) (unit : List ℕ) where
-  -- the unit after the inputs, after math, after the tables, and before 1001h
-  sensed : List ℕ
-  sensed = each 4 (λ n. inputTurn (getD samples (n - 1) (pos 0)) n) unit
-
-  calculated : List ℕ
-  calculated = each 4 mathTurn sensed
-
-  tabled : List ℕ
-  tabled = each 6 tableTurn calculated
-
-  driven : List ℕ
-  driven = each 4 outputTurn (each 2 logicTurn tabled)
-
-  last : registered driven ≡ ticked samples unit
-  unfolding ticked driven tabled calculated sensed
-  last = refl
-
-  to-last : {slot : ℕ} {u : List ℕ} → Unseen slot → Kept slot u (each 2 logicTurn tabled) → Kept slot u (ticked samples unit)
-  unfolding driven
-  to-last {slot} {u} free kept = subst (Kept slot u) last (joined (all-keep 4 outputTurn (output-keeps free) kept) (register-keeps free driven))
-
-  module _ {slot : ℕ} (p : Unpublished slot) where
-    through-inputs : Kept slot unit sensed
-    unfolding sensed
-    through-inputs = all-keep 4 (λ n. inputTurn (getD samples (n - 1) (pos 0)) n) (λ k h. input-keeps (unseen p) k h (in-words p) (getD samples (k + 1 - 1) (pos 0))) same
-
-    through-maths : (m : ℕ) → m ≤ 4 → Kept slot unit (each m mathTurn sensed)
-    through-maths m l = all-keep m mathTurn (λ k h. math-keeps (unseen p) k (omega arith) (clear p maths (k + 1))) through-inputs
-
-    through-tables : (m : ℕ) → m ≤ 6 → Kept slot unit (each m tableTurn calculated)
-    unfolding calculated
-    through-tables m l = all-keep m tableTurn (λ k h. table-keeps (unseen p) k (omega arith) (clear p tables (k + 1))) (through-maths 4 (lit≤ tt))
-
-    through-logics : (m : ℕ) → m ≤ 2 → Kept slot unit (each m logicTurn tabled)
-    unfolding tabled
-    through-logics m l = all-keep m logicTurn (λ k h. logic-keeps (unseen p) k (omega arith) (clear p logics (k + 1))) (through-tables 6 (lit≤ tt))
-
-    through : Kept slot unit (ticked samples unit)
-    through = to-last (unseen p) (through-logics 2 (lit≤ tt))
+  pub tame : (r : ℕ) → r ≤ 20 → Tame unit (at-turn samples unit r)
+  tame r h slot p = until samples unit r h (λ j l. spared p j)
 
   -- a tick leaves every word of the configuration, 2500h and 5010h:1-2 as it was
   pub words-kept : (slot : ℕ) → Unpublished slot → getD (ticked samples unit) slot 0 ≡ getD unit slot 0
-  words-kept slot p = through p .word
+  words-kept slot p = to-last samples unit (no-register p) (tame 20 (lit≤ tt) slot p) .word
 
   -- and the number of all words
   pub length-kept : length (ticked samples unit) ≡ length unit
-  length-kept = through first-word .size
+  length-kept = to-last samples unit (no-register first-word) (tame 20 (lit≤ tt) 0 first-word) .size
 
 -- ---- 1001h
 
@@ -124,13 +94,13 @@ same-flags kept = rw (kept 0 .word, kept 1 .word, kept 2 .word, kept 3 .word)
 told : (u : List ℕ) → length (registered u) ≡ unit-size → entry (registered u) 0x1001 0 ≡ first (anyFlagged (registered u)) 0x21 0
 unfolding entry registered publish unit-size flags-at runs-at signals-at
 told u size =
-    let kept : (k : ℕ) → Kept (flags-at + k) u (registered u) = λ k. register-keeps (λ at low high e. omega (arith, fixed-last)) u in
+    let kept : (k : ℕ) → Kept (flags-at + k) u (registered u) = λ k. register-keeps (λ e. omega (arith, register-first, counted)) u in
     getD-set-same u (slot-of 0x1001 0) _ 0 (omega (arith, register-first, counted, kept 0 .size))
     ∙ sym (ap (λ (b : Bool). first b 0x21 0) (same-flags kept))
 
 pub register-told : Register-told
 register-told samples unit size =
-    subst (λ (u : List ℕ). length u ≡ unit-size → entry u 0x1001 0 ≡ first (anyFlagged u) 0x21 0) (last samples unit) (told (driven samples unit))
+    subst (λ (u : List ℕ). length u ≡ unit-size → entry u 0x1001 0 ≡ first (anyFlagged u) 0x21 0) (all-turns samples unit) (told (at-turn samples unit 20))
     (length-kept samples unit ∙ size)
 
 -- a write to what can be written leaves the flags and 1001h
@@ -149,7 +119,7 @@ module _ (unit : List ℕ) (slot word : ℕ) (h : slot < writable) where
 laid-absent : (u : List ℕ) (kind k : ℕ) (s : Signal) → s ≡ Absent → length u ≡ unit-size → kind + k < 16 → held (lay u kind (k + 1) s) kind (k + 1) ≡ Absent
 laid-absent u kind k s e size room = rw e (laid-down u kind (k + 1) Absent two-words.Kept.absent size (omega arith))
 
-published-length : (u : List ℕ) (index sub word : ℕ) → length (publish u index sub word) ≡ length u
+pub published-length : (u : List ℕ) (index sub word : ℕ) → length (publish u index sub word) ≡ length u
 unfolding publish
 published-length u index sub word = length-set u (slot-of index sub) word
 
@@ -159,55 +129,94 @@ unfolding byte entry
 same-byte kept index sub h = ap (λ (w : ℕ). w % 0x100) (kept (slot-of index sub) (before h) .word)
 
 module _ (samples : List ℤ) (unit : List ℕ) (size : length unit ≡ unit-size) (k : ℕ) where
-  -- after the tick a block holds what its own turn laid down
-  math-own : k < 4 → held (ticked samples unit) maths (k + 1) ≡ held (mathTurn (k + 1) (each k mathTurn (sensed samples unit))) maths (k + 1)
-  unfolding tabled calculated
-  math-own h = held-kept maths (k + 1) (λ slot r. let free = row-unseen r in
-      to-last samples unit free
-      (all-keep 2 logicTurn (λ j g. logic-keeps free j g (row-clear r logics (j + 1) (λ e. omega arith)))
-      (all-keep 6 tableTurn (λ j g. table-keeps free j g (row-clear r tables (j + 1) (λ e. omega arith)))
-      (own-turn mathTurn 4 k (λ j g other. math-keeps free j g (row-clear r maths (j + 1) (λ e. other (omega arith)))) (sensed samples unit) 4 h (lit≤ tt)))))
-
-  table-own : k < 6 → held (ticked samples unit) tables (k + 1) ≡ held (tableTurn (k + 1) (each k tableTurn (calculated samples unit))) tables (k + 1)
-  unfolding tabled
-  table-own h = held-kept tables (k + 1) (λ slot r. let free = row-unseen r in
-      to-last samples unit free
-      (all-keep 2 logicTurn (λ j g. logic-keeps free j g (row-clear r logics (j + 1) (λ e. omega arith)))
-      (own-turn tableTurn 6 k (λ j g other. table-keeps free j g (row-clear r tables (j + 1) (λ e. other (omega arith)))) (calculated samples unit) 6 h (lit≤ tt))))
-
-  logic-own : k < 2 → held (ticked samples unit) logics (k + 1) ≡ held (logicTurn (k + 1) (each k logicTurn (tabled samples unit))) logics (k + 1)
-  logic-own h = held-kept logics (k + 1) (λ slot r. let free = row-unseen r in
-      to-last samples unit free
-      (own-turn logicTurn 2 k (λ j g other. logic-keeps free j g (row-clear r logics (j + 1) (λ e. other (omega arith)))) (tabled samples unit) 2 h (lit≤ tt)))
+  pub sized : (r : ℕ) → r ≤ 20 → length (at-turn samples unit r) ≡ unit-size
+  sized r h = tame samples unit r h 0 first-word .size ∙ size
 
   math-absent : k < 4 → switched unit 0x4500 (k + 1) ≡ false → held (ticked samples unit) maths (k + 1) ≡ Absent
   unfolding mathTurn mathSignal combined first switched has
   math-absent h off =
-      let u = each k mathTurn (sensed samples unit) in
-      let kept : Tame unit u = λ slot p. through-maths samples unit p k (omega arith) in
-      math-own h
+      let r = maths + k in
+      let kept = tame samples unit r (omega arith) in
+      math-own samples unit k h
       ∙ laid-absent _ maths k _ (rw (same-byte kept 0x4500 (k + 1) (omega (arith, array 0x4500 refl k h, counted)), off))
-      (published-length u _ _ _ ∙ kept 0 first-word .size ∙ size) (omega arith)
+      (published-length _ _ _ _ ∙ sized r (omega arith)) (omega arith)
 
   pub table-off : k < 6 → Nothing (extent (byte unit (of-table 0x3000 (k + 1)) 0) % 16) (byte unit (of-table 0x3001 (k + 1)) 0) → held (ticked samples unit) tables (k + 1) ≡ Absent
   unfolding tableTurn tableSignal lookedUp have
   table-off h off =
-      let u = each k tableTurn (calculated samples unit) in
-      let kept : Tame unit u = λ slot p. through-tables samples unit p k (omega arith) in
+      let r = tables + k in
+      let kept = tame samples unit r (omega arith) in
       let source = same-byte kept (of-table 0x3000 (k + 1)) 0 (omega (arith, table-var 0x3000 refl k h, counted)) in
       let number = same-byte kept (of-table 0x3001 (k + 1)) 0 (omega (arith, table-var 0x3001 refl k h, counted)) in
-      table-own h
-      ∙ laid-absent _ tables k _ (rw (source, number, names-nothing u _ _ off))
-      (published-length u _ _ _ ∙ kept 0 first-word .size ∙ size) (omega arith)
+      table-own samples unit k h
+      ∙ laid-absent _ tables k _ (rw (source, number, names-nothing _ _ _ off))
+      (published-length _ _ _ _ ∙ sized r (omega arith)) (omega arith)
 
   pub logic-off : k < 2 → switched unit 0x4000 (k + 1) ≡ false → held (ticked samples unit) logics (k + 1) ≡ Absent
   unfolding logicTurn chosen first switched has
   logic-off h off =
-      let u = each k logicTurn (tabled samples unit) in
-      let kept : Tame unit u = λ slot p. through-logics samples unit p k (omega arith) in
-      logic-own h
-      ∙ laid-absent _ logics k _ (rw (same-byte kept 0x4000 (k + 1) (omega (arith, array 0x4000 refl k h, counted)), off) (names-nothing u 3 0 (inl refl)))
-      (published-length _ _ _ _ ∙ published-length u _ _ _ ∙ kept 0 first-word .size ∙ size) (omega arith)
+      let r = logics + k in
+      let kept = tame samples unit r (omega arith) in
+      logic-own samples unit k h
+      ∙ laid-absent _ logics k _ (rw (same-byte kept 0x4000 (k + 1) (omega (arith, array 0x4000 refl k h, counted)), off) (names-nothing _ 3 0 (inl refl)))
+      (published-length _ _ _ _ ∙ published-length _ _ _ _ ∙ sized r (omega arith)) (omega arith)
+
+-- ---- after a tick every block holds the signal that its own turn made
+
+same-whole : {u v : List ℕ} → Tame u v → (index sub : ℕ) → slot-of index sub < writable → whole v index sub ≡ whole u index sub
+unfolding whole entry
+same-whole kept index sub h = ap signed16 (kept (slot-of index sub) (before h) .word)
+
+-- the chains of math k + 1 stand in the configuration
+rising : {u v : List ℕ} → Tame u v → (k : ℕ) → k < 4 → Rising u (k + 1) → Rising v (k + 1)
+unfolding has have
+rising kept k h r =
+    record {
+      inputs = λ i g.
+          rw (
+            same-whole kept (of-math 0x4020 (k + 1)) (i + 1) (omega (arith, math-array 0x4020 refl k h i g, counted)),
+            same-whole kept (of-math 0x4022 (k + 1)) (i + 1) (omega (arith, math-array 0x4022 refl k h i g, counted)),
+          ) (r .inputs i g);
+      ends =
+          rw (
+            same-whole kept 0x4521 (k + 1) (omega (arith, array 0x4521 refl k h, counted)),
+            same-whole kept 0x4523 (k + 1) (omega (arith, array 0x4523 refl k h, counted)),
+          ) (r .ends);
+    }
+
+-- an input's run and flag stand behind the signals
+remembered : (u : List ℕ) (kind n i : ℕ) (m : Memory) → kind + (n - 1) < 16 → held (remember u i m) kind n ≡ held u kind n
+unfolding remember place runs-at flags-at
+remembered u kind n i m h =
+    held-kept kind n (λ slot o. joined (set-keeps u (runs-at + (i - 1)) _ (λ e. omega (arith, o .high))) (set-keeps _ (flags-at + (i - 1)) _ (λ e. omega (arith, o .high))))
+
+module _ (samples : List ℤ) (unit : List ℕ) (size : length unit ≡ unit-size) (k : ℕ) where
+  pub input-made : k < 4 → let u = at-turn samples unit (inputs + k) in
+      held (ticked samples unit) inputs (k + 1) ≡ sensed (settings u (k + 1)) (memory u (k + 1)) (getD samples k (pos 0)) .signal
+  unfolding inputTurn
+  input-made h =
+      input-own samples unit k h ∙ remembered _ inputs (k + 1) (k + 1) _ (omega arith)
+      ∙ laid-down _ inputs (k + 1) _ (input-number _ (k + 1) _) (published-length _ _ _ _ ∙ published-length _ _ _ _ ∙ sized samples unit size k (inputs + k) (omega arith)) (omega arith)
+
+  pub math-made : k < 4 → Rising unit (k + 1) → held (ticked samples unit) maths (k + 1) ≡ mathSignal (at-turn samples unit (maths + k)) (k + 1)
+  unfolding mathTurn
+  math-made h r =
+      math-own samples unit k h
+      ∙ laid-down _ maths (k + 1) _ (math-number _ (k + 1) (rising (tame samples unit (maths + k) (omega arith)) k h r))
+      (published-length _ _ _ _ ∙ sized samples unit size k (maths + k) (omega arith)) (omega arith)
+
+  pub table-made : k < 6 → held (ticked samples unit) tables (k + 1) ≡ tableSignal (at-turn samples unit (tables + k)) (k + 1)
+  unfolding tableTurn
+  table-made h =
+      table-own samples unit k h
+      ∙ laid-down _ tables (k + 1) _ (table-number _ (k + 1)) (published-length _ _ _ _ ∙ sized samples unit size k (tables + k) (omega arith)) (omega arith)
+
+  pub logic-made : k < 2 → let u = at-turn samples unit (logics + k) in held (ticked samples unit) logics (k + 1) ≡ sourced u 3 (chosen u (k + 1))
+  unfolding logicTurn
+  logic-made h =
+      logic-own samples unit k h
+      ∙ laid-down _ logics (k + 1) _ (sourced-kept _ 3 _)
+      (published-length _ _ _ _ ∙ published-length _ _ _ _ ∙ sized samples unit size k (logics + k) (omega arith)) (omega arith)
 
 pub math-off : Math-off
 math-off = math-absent

@@ -1,3 +1,7 @@
+pub mod Commands
 pub mod Register
+pub mod Saw
+pub mod Shown
 pub mod Tick
 pub mod TickLaws
+pub mod Turns

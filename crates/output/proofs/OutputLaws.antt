@@ -76,17 +76,21 @@ some-rule s control enable over =
     chosen one-of _ 1 _ (λ e. omega arith) (λ e. chosen one-of _ 2 _ (λ e. omega arith) (λ e. chosen one-of _ 3 _ (λ e. omega arith)
     (λ e. chosen one-of _ 4 _ (λ e. omega arith) (λ e. chosen one-of _ 5 _ (λ e. omega arith) (λ e. chosen one-of _ 6 _ (λ e. omega arith) (λ e. omega arith))))))
 
-pub rule-7 : Rule-7
-unfolding Rule-7 byRule first ramped target
-rule-7 s control enable over last order e =
+-- the ramp stays between the limits
+pub ramped-within : (s : Settings) (v last : ℤ) → s .fv1 <ℤ s .fv2 → Within (s .fv1) (s .fv2) (ramped s v last)
+unfolding ramped target
+ramped-within s v last order =
     let low = s .fv1 in
     let high = s .fv2 in
     let le = below-le low high (lt-is-below order) in
-    let v = limitWhole (whole control) (s .pv1) (s .pv2) in
+    let x = limitWhole v (s .pv1) (s .pv2) in
     let from : Within low high (limitWhole last low high) = record { from = limit-from last low high le; to = limit-to last low high le } in
-    let aim : Within low high (target s (whole control)) =
-    record { from = from-first (s .pv1) low (s .pv2) high le v; to = to-second (s .pv1) low (s .pv2) high le v } in
-    rw (by s control enable over last e) (moves from aim (span low high) (s .«ramp_up») (s .«ramp_down»))
+    let aim : Within low high (target s v) = record { from = from-first (s .pv1) low (s .pv2) high le x; to = to-second (s .pv1) low (s .pv2) high le x } in
+    moves from aim (span low high) (s .«ramp_up») (s .«ramp_down»)
+
+pub rule-7 : Rule-7
+unfolding Rule-7 byRule first
+rule-7 s control enable over last order e = rw (by s control enable over last e) (ramped-within s (whole control) last order)
 
 -- ---- "Output at rest, target 1500: 2 after one tick."
 unfoldable pub bench : Settings

@@ -6,6 +6,9 @@ use Rattle.promises.proofs.Bench as Bench
 use Rattle.promises.proofs.Images as Images
 use Rattle.promises.proofs.Restoring as Restoring
 use Rattle.promises.proofs.Running as Running
+use Rattle.promises.proofs.Ticking as Ticking
+use Rattle.controller.proofs.Seen as Seen
+use Rattle.controller.proofs.Turns as Turns
 use Rattle.promises.proofs.Serving as Serving
 
 pub demand-1 : Demand-1
@@ -15,6 +18,7 @@ demand-1 =
       one-list = Restoring.one-list;
       images-told-apart = Images.accepts-exactly;
       frames-refused = Serving.untouched;
+      first-eight-only = Serving.first-eight-only;
       images-refused = Images.refusals-write-nothing;
       lists-refused = Restoring.refused-lists-write-nothing;
     }
@@ -23,11 +27,16 @@ pub demand-2 : Demand-2
 demand-2 =
     record {
       reads-back = Serving.reads-back;
+      that-one-entry = Serving.that-one-entry;
       decided-by-configuration = Serving.decided-by-configuration;
       stays-valid = Serving.stays-valid;
       on-the-bench = Bench.on-the-bench;
       only-the-fold = Running.only-the-fold;
       always-sound = Running.always-sound;
+      seen-by = Turns.seen-by;
+      sourced-by = Seen.sourced-by;
+      no-nan = Ticking.no-nan;
+      every-tick = Ticking.every-tick;
       some-rule = OutputLaws.some-rule;
       rules-1-to-6 = OutputLaws.rules-1-to-6;
       rule-7 = OutputLaws.rule-7;

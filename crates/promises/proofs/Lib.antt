@@ -14,5 +14,6 @@ pub mod Running
 pub mod Serving
 pub mod Slots
 pub mod Spent
+pub mod Ticking
 pub mod Underway
 pub mod Writing

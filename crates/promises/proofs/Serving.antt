@@ -4,18 +4,24 @@ use mathlib.Core.Path.{_≡_, refl, sym, ap, _∙_, subst}
 use mathlib.Core.List.{List, _∷_, _++_}
 use Prim.Native.Nat.{ℕ, _-_}
 use native.Mathlib.Omega.{arith}
-use lib.ListN.{length, getD, set, take, drop, replicate}
+use lib.ListN.{length, getD, set, take, drop, replicate, length-drop}
+use lib.Seq.{getD-set-other}
 use Rattle.dictionary.specs.Unit.{unit-size}
+use Rattle.dictionary.specs.declared.types.Found.the-variants.{At}
+use Rattle.dictionary.proofs.naming.NameLaws.{counted}
+use Rattle.dictionary.proofs.OneEach.{names-apart}
 use Rattle.entries.specs.Valid.{Valid}
 use Rattle.entries.proofs.Start.{valid-at-start}
 use Rattle.sdo.specs.Answers.{offered, writing, obeyed, answer}
-use Rattle.sdo.specs.Frames.{name-in, data-in, command-of, read-command, reply-to}
+use Rattle.sdo.specs.Frames.{index-in, sub-in, reply, name-in, data-in, command-of, read-command, reply-to}
 use Rattle.sdo.specs.declared.types.Answer.{Answer}
 use Rattle.sdo.specs.declared.types.Answer.the-variants.{Silent, Aborted, Value, Written}
 use Rattle.sdo.specs.declared.types.Command.the-variants.{Write}
 use Rattle.sdo.specs.Served.{after, filled}
-use Rattle.octets.specs.Little.{Bytes}
-use Rattle.promises.specs.Serving.{Untouched, Determined, Reads-back, Stays-valid, Decided-by-configuration}
+use Rattle.octets.specs.Little.{bytes, Bytes}
+use Rattle.sdo.proofs.AnswerLaws.{heard}
+use Rattle.sdo.proofs.ReplyLaws.{abort-speaks, value-speaks, written-speaks}
+use Rattle.promises.specs.Serving.{Untouched, First-eight-only, That-one-entry, Determined, Reads-back, Stays-valid, Decided-by-configuration}
 use Rattle.promises.proofs.Accepted.{accepted}
 use Rattle.promises.proofs.Judged.{judged-same}
 use Rattle.promises.proofs.ReadBack.{reply-back}
@@ -25,6 +31,27 @@ pub untouched : Untouched
 unfolding after filled reply-to
 untouched words frame reply words′ reply′ r s =
     (λ e. (s .state ∙ ap (after words) e, s .bytes ∙ ap (filled reply frame) e), λ a e. s .state ∙ ap (after words) e)
+
+pub first-eight-only : First-eight-only
+unfolding filled reply-to reply name-in bytes
+first-eight-only words frame buffer words′ buffer′ r s =
+    let left = by r (s .answered) in (ap length (s .bytes) ∙ left .0, ap (drop 8) (s .bytes) ∙ left .1)
+  where
+    by : (a : Answer) → a ≡ answer words frame (length buffer) → (length (filled buffer frame a) ≡ length buffer) × (drop 8 (filled buffer frame a) ≡ drop 8 buffer)
+    by Silent e = (refl, refl)
+    by (Aborted x) e = (omega (arith, length-drop 8 buffer, heard words frame (length buffer) (Aborted x) e (abort-speaks buffer frame (Aborted x) x refl)), refl)
+    by (Value w n) e = (omega (arith, length-drop 8 buffer, heard words frame (length buffer) (Value w n) e (value-speaks buffer frame (Value w n) w n refl)), refl)
+    by (Written k w) e = (omega (arith, length-drop 8 buffer, heard words frame (length buffer) (Written k w) e (written-speaks buffer frame (Written k w) k w refl)), refl)
+
+pub that-one-entry : That-one-entry
+unfolding after
+that-one-entry unit frame room slot word e =
+    let a = accepted unit frame room slot word e in
+    record {
+      own = a .found;
+      others = λ index sub other f different. getD-set-other unit slot other word 0 (λ q. different (names-apart index sub (index-in frame) (sub-in frame) slot (f ∙ ap At q) (a .found)));
+      remembered = λ k h. getD-set-other unit slot k word 0 (λ q. omega (arith, a .below, counted));
+    }
 
 pub determined : Determined
 determined words frame reply w₁ b₁ w₂ b₂ r s p q =

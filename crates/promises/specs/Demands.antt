@@ -5,7 +5,9 @@ use Rattle.promises.specs.Bench.{On-the-bench}
 use Rattle.promises.specs.Images.{Saved-reads-back, Same-bytes-again, Accepts-exactly, One-configuration-each, Refusals-write-nothing, Looked-up-as-it-stands}
 use Rattle.promises.specs.Restoring.{Always-fits, Each-accepted, Arrives, Cut-anywhere, Count-is-difference, Shortest, Turned-away-exactly, Refused-lists-write-nothing, One-list}
 use Rattle.promises.specs.Running.{Only-the-fold, Always-sound}
-use Rattle.promises.specs.Serving.{Untouched, Determined, Reads-back, Stays-valid, Decided-by-configuration}
+use Rattle.promises.specs.Ticking.{No-nan, Every-tick}
+use Rattle.controller.specs.Turns.{Seen-by, Sourced-by}
+use Rattle.promises.specs.Serving.{Untouched, First-eight-only, That-one-entry, Determined, Reads-back, Stays-valid, Decided-by-configuration}
 
 -- "Every frame, image and sample is taken. .. Each call ends, and no caller has to look first": no public function has a `requires`, and the checker proves that each ends
 pub record Demand-1 : Type 0 where
@@ -17,6 +19,7 @@ pub record Demand-1 : Type 0 where
   pub images-told-apart : Accepts-exactly
   -- "after a refusal the controller and the lent buffers hold what they held before, save for an abort frame where a reply is due": of a frame
   pub frames-refused : Untouched
+  pub first-eight-only : First-eight-only
   -- of an image that is read or written
   pub images-refused : Refusals-write-nothing
   -- of a list
@@ -25,6 +28,8 @@ pub record Demand-1 : Type 0 where
 pub record Demand-2 : Type 0 where
   -- "Frames answer as DS-301 expedited transfer says": what is written is read back, by its name
   pub reads-back : Reads-back
+  -- "An accepted write changes that one entry"
+  pub that-one-entry : That-one-entry
   -- nothing but the configuration decides whether a configuration write is accepted
   pub decided-by-configuration : Decided-by-configuration
   -- no frame breaks a range or a chain
@@ -35,6 +40,13 @@ pub record Demand-2 : Type 0 where
   pub only-the-fold : Only-the-fold
   -- and in that, from the start, ranges and chains hold and 1001h tells of the flags
   pub always-sound : Always-sound
+  -- "A block that reads a later block, or itself, sees the last tick's signal", and of every block before it this tick's
+  pub seen-by : Seen-by
+  pub sourced-by : Sourced-by
+  -- no block makes a NaN
+  pub no-nan : No-nan
+  -- after every tick each block holds the signal that its turn made, and each output has the command of its rule
+  pub every-tick : Every-tick
   -- "So under rule 7 the command stays between the two configured limits, and rules 1 to 6 name their value": one of the seven applies
   pub some-rule : Some-rule
   pub rules-1-to-6 : Rules-1-to-6

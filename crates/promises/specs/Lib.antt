@@ -5,3 +5,4 @@ pub mod Images
 pub mod Restoring
 pub mod Running
 pub mod Serving
+pub mod Ticking

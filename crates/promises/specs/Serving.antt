@@ -1,11 +1,11 @@
 -- What is promised of frames.
 -- Assumes nothing.
-use Prim.Native.Nat.{ℕ, _-_, _<_}
+use Prim.Native.Nat.{ℕ, _-_, _<_, _≤_}
 use mathlib.Core.Path.{_≡_}
 use mathlib.Core.List.{List, _∷_, _++_}
 use lib.ListN.{length, getD, take, drop, replicate}
 use Rattle.octets.specs.Little.{Bytes}
-use Rattle.dictionary.specs.Names.{configured, find}
+use Rattle.dictionary.specs.Names.{configured, words, find}
 use Rattle.dictionary.specs.Unit.{unit-size}
 use Rattle.dictionary.specs.declared.types.Found.the-variants.{At}
 use Rattle.entries.specs.Valid.{Valid}
@@ -23,6 +23,21 @@ abbrev pub Untouched : Type 0
 Untouched =
     (unit frame reply unit′ reply′ : List ℕ) (r : Answer) → Served unit frame reply unit′ reply′ r
     → (r ≡ Silent → (unit′ ≡ unit) × (reply′ ≡ reply)) × ((a : Abort) → r ≡ Aborted a → unit′ ≡ unit)
+
+-- "A reply fills the buffer's first 8 bytes only", an abort's too
+abbrev pub First-eight-only : Type 0
+First-eight-only =
+    (unit frame reply unit′ reply′ : List ℕ) (r : Answer) → Served unit frame reply unit′ reply′ r → (length reply′ ≡ length reply) × (drop 8 reply′ ≡ drop 8 reply)
+
+-- "An accepted write changes that one entry": no other name's word, and nothing that ticks remember behind the words
+pub record Changes-only (unit frame : List ℕ) (slot word : ℕ) : Type 0 where
+  pub own : find (index-in frame) (sub-in frame) ≡ At slot
+  pub others : (index sub other : ℕ) → find index sub ≡ At other → ((index ≡ index-in frame) × (sub ≡ sub-in frame) → ⊥)
+      → getD (after unit (Written slot word)) other 0 ≡ getD unit other 0
+  pub remembered : (k : ℕ) → words ≤ k → getD (after unit (Written slot word)) k 0 ≡ getD unit k 0
+
+abbrev pub That-one-entry : Type 0
+That-one-entry = (unit frame : List ℕ) (room slot word : ℕ) → answer unit frame room ≡ Written slot word → Changes-only unit frame slot word
 
 -- two answers that the contract allows are equal, with all that they leave
 abbrev pub Determined : Type 0
