@@ -30,7 +30,7 @@ use Rattle.lists.specs.Changes.{list-of}
 use Rattle.promises.specs.Delivery.{frames-in}
 use Rattle.promises.proofs.ListFrames.{frame-bytes}
 use Rattle.promises.proofs.Slots.{own-range}
-use Rattle.promises.specs.Restoring.{Holds, In-place, Complete, Accepts, Reaches}
+use Rattle.promises.specs.Restoring.{In-place, Proper, Holds, Accepts, Reaches}
 use Rattle.promises.proofs.Accepted.{accepted}
 use Rattle.promises.proofs.Running.{agrees, sizes, size-at-start}
 use Rattle.promises.proofs.Underway.{Going, next, begun, ended, front-is, all-words}
@@ -68,9 +68,10 @@ placed-long (e ∷ es) rest p =
     let long = length-drop (7 + size e) rest in
     omega arith
 
-pub complete-good : (image : List ℕ) → Complete image → Valid (configuration-in image) → reading image ≡ Good
+pub good : {image : List ℕ} → Proper image → reading image ≡ Good
 unfolding configuration-in fits is-good
-complete-good image c v =
+good {image} p =
+    let c = p .complete in
     let long = length-drop 4 image in
     let body = placed-long listed (drop 4 image) (c .places) in
     accepts image (record {
@@ -80,11 +81,11 @@ complete-good image c v =
         counted = c .count;
         rights = placed-right listed (drop 4 image) (c .places) (λ k l. inside k (omega (arith, Places.counted, Names.counted .0)));
       };
-      order = linked-order (configuration-in image) (v .linked);
+      order = linked-order (configuration-in image) (p .valid .linked);
     })
   where
     inside : (k : ℕ) → k < configured → fits (entry listed k) (getD (configuration-in image) k 0) ≡ true
-    inside k l = ap (λ (r : Range). is-good (in-range r (getD (configuration-in image) k 0))) (own-range k l) ∙ ap is-good (v .ranged k l)
+    inside k l = ap (λ (r : Range). is-good (in-range r (getD (configuration-in image) k 0))) (own-range k l) ∙ ap is-good (p .valid .ranged k l)
 
 -- ---- a list on its way, to its end
 

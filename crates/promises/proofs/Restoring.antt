@@ -7,8 +7,7 @@ use native.Mathlib.Omega.{arith}
 use lib.IntN.{ℤ, pos, negsuc, negℤ}
 use lib.ListN.{length, take, drop, length-map}
 use lib.Seq.{drop-append-seam}
-use Rattle.octets.specs.Little.{little, bytes, Bytes}
-use Rattle.entries.specs.Valid.{Valid}
+use Rattle.octets.specs.Little.{little, bytes}
 use Rattle.sdo.specs.Answers.{size-of}
 use Rattle.sdo.specs.Frames.{reply, reply-to}
 use Rattle.records.specs.Layout.{record-in}
@@ -30,35 +29,26 @@ use Rattle.gateway.specs.Restored.{told, outcome}
 use Rattle.promises.specs.Delivery.{frames-in}
 use Rattle.gateway.proofs.LengthLaws.{list-short}
 use Rattle.promises.proofs.ListFrames.{frame-at, count-is, list-long, list-frames}
-use Rattle.promises.specs.Restoring.{list-left, Sent, Restoring, Always-fits, Each-accepted, Arrives, Cut-anywhere, Count-is-difference, one-record, record-bytes, Shortest, Reaches, Turned-away, Turned-away-exactly, Refused-lists-write-nothing, One-list}
+use Rattle.promises.specs.Restoring.{list-left, Called, Sent, Restoring, Always-fits, Each-accepted, Arrives, Cut-anywhere, Count-is-difference, one-record, record-bytes, Shortest, Reaches, Turned-away, Turned-away-exactly, Refused-lists-write-nothing, One-list}
 use Rattle.promises.proofs.Listed.{wanted-refused, number-is, buffer-is, left-is}
-use Rattle.promises.proofs.Reached.{only-valid, complete-good, reaches}
+use Rattle.promises.proofs.Reached.{only-valid, good, reaches}
 use Rattle.promises.proofs.Spent.{paid}
 use Rattle.promises.proofs.Underway.{Going, begun, ended, next, further}
 
 -- ---- a call, and a unit that holds the current configuration
 
-valid-in : (image : List ℕ) → Bytes image → reading image ≡ Good → Valid (configuration-in image)
-valid-in image b g = configuration-valid image (accepted image g) b
+module _ {current wanted buffer buffer′ : List ℕ} {r : ℤ} (h : Called current wanted buffer buffer′ r) where
+  good-first : reading current ≡ Good
+  good-first = good (h .first)
 
-module _ {current wanted buffer buffer′ : List ℕ} {r : ℤ} {unit : List ℕ} (h : Restoring current wanted buffer buffer′ r unit) where
-  first : Valid (configuration-in current)
-  first = valid-in current (h .bytes-first) (h .good-first)
-
-  second : Valid (configuration-in wanted)
-  second = valid-in wanted (h .bytes-second) (h .good-second)
+  good-second : reading wanted ≡ Good
+  good-second = good (h .second)
 
   the-list : list-left r buffer′ ≡ list-of current wanted
-  the-list = left-is (h .good-first) (h .good-second) (h .room) (h .called)
+  the-list = left-is good-first good-second (h .room) (h .restored)
 
   the-buffer : buffer′ ≡ list-of current wanted ++ drop (length (list-of current wanted)) buffer
-  the-buffer = buffer-is (h .good-first) (h .good-second) (h .room) (h .called)
-
-  -- whatever was sent, and came between
-  there : {sent rest : List (List ℕ)} {unit′ : List ℕ} → frames-in (list-left r buffer′) ≡ sent ++ rest → Sent sent unit unit′ → Going current wanted rest unit′
-  there e s =
-      further current wanted (h .good-second) first second s
-      (subst (λ (f : List (List ℕ)). Going current wanted f unit) (sym (ap frames-in the-list) ∙ e) (begun current wanted (h .good-second) (h .holds)))
+  the-buffer = buffer-is good-first good-second (h .room) (h .restored)
 
   many : length (changes current wanted) ≡ apart (configuration-in current) (configuration-in wanted)
   unfolding changes
@@ -74,15 +64,23 @@ module _ {current wanted buffer buffer′ : List ℕ} {r : ℤ} {unit : List ℕ
 
   frames-many : length (frames-in (list-left r buffer′)) ≡ apart (configuration-in current) (configuration-in wanted)
   frames-many =
-      ap (λ (l : List ℕ). length (frames-in l)) the-list ∙ ap length (list-frames current wanted (h .good-second)) ∙ length-map (changes current wanted) (frame-at wanted) ∙ many
+      ap (λ (l : List ℕ). length (frames-in l)) the-list ∙ ap length (list-frames current wanted good-second) ∙ length-map (changes current wanted) (frame-at wanted) ∙ many
+
+module _ {current wanted buffer buffer′ : List ℕ} {r : ℤ} {unit : List ℕ} (h : Restoring current wanted buffer buffer′ r unit) where
+  -- whatever was sent, and came between
+  there : {sent rest : List (List ℕ)} {unit′ : List ℕ} → frames-in (list-left r buffer′) ≡ sent ++ rest → Sent sent unit unit′ → Going current wanted rest unit′
+  there e s =
+      let c = h .called in
+      further current wanted (good-second c) (c .first .valid) (c .second .valid) s
+      (subst (λ (f : List (List ℕ)). Going current wanted f unit) (sym (ap frames-in (the-list c)) ∙ e) (begun current wanted (good-second c) (h .holds)))
 
 -- ---- the promises
 
 pub always-fits : Always-fits
-always-fits current wanted buffer buffer′ r unit h =
+always-fits current wanted buffer buffer′ r h =
     rw (the-list h) (
-      number-is (h .good-first) (h .good-second) (h .room) (h .called),
-      list-short current wanted (h .good-second),
+      number-is (good-first h) (good-second h) (h .room) (h .restored),
+      list-short current wanted (good-second h),
       ap (drop (length (list-of current wanted))) (the-buffer h)
           ∙ drop-append-seam (list-of current wanted) (drop (length (list-of current wanted)) buffer),
     )
@@ -90,7 +88,8 @@ always-fits current wanted buffer buffer′ r unit h =
 pub each-accepted : Each-accepted
 unfolding reply-to reply bytes
 each-accepted current wanted buffer buffer′ r unit h sent rest f unit′ e s room k =
-    rw (next current wanted (h .good-second) (first h) (second h) (there h e s) .answers room k)
+    let c = h .called in
+    rw (next current wanted (good-second c) (c .first .valid) (c .second .valid) (there h e s) .answers room k)
 
 pub arrives : Arrives
 arrives current wanted buffer buffer′ r unit h unit′ s =
@@ -100,16 +99,17 @@ pub cut-anywhere : Cut-anywhere
 cut-anywhere current wanted buffer buffer′ r unit h sent rest unit′ e s slot l = either (there h e s .left) slot l
 
 pub count-is-difference : Count-is-difference
-count-is-difference current wanted buffer buffer′ r unit h = (counted h, frames-many h)
+count-is-difference current wanted buffer buffer′ r h = (counted h, frames-many h)
 
 pub shortest : Shortest
 unfolding changes
 shortest current wanted buffer buffer′ r unit h events e =
+    let c = h .called in
     let a = configuration-in current in
     let b = configuration-in wanted in
     let records = paid (λ s. 1) one-record (λ slot word. omega arith) a b unit events (h .holds .front) e in
     let all = paid (λ s. 7 + size-of s) record-bytes (λ slot word. omega arith) a b unit events (h .holds .front) e in
-    (omega (arith, frames-many h, many h, total-length (sends a b)), omega (arith, ap length (the-list h), list-long current wanted (h .good-second)))
+    (omega (arith, frames-many c, many c, total-length (sends a b)), omega (arith, ap length (the-list c), list-long current wanted (good-second c)))
 
 -- ---- what is turned away
 
@@ -122,16 +122,16 @@ no-list n why e =
 
 pub turned-away-exactly : Turned-away-exactly
 unfolding told
-turned-away-exactly current wanted buffer buffer′ r b c g complete room called = (
+turned-away-exactly current wanted buffer buffer′ r first complete room called = (
   λ t reach.
-      let good = complete-good wanted complete (only-valid reach (valid-in current b g)) in
-      no-list (length (list-of current wanted)) (number (t .why)) (sym (number-is g good room called) ∙ t .told),
+      let g = good (record { complete = complete; valid = only-valid reach (first .valid) }) in
+      no-list (length (list-of current wanted)) (number (t .why)) (sym (number-is (good first) g room called) ∙ t .told),
   λ never. by-reading never (reading wanted) refl,
 )
   where
     by-reading : (Reaches (configuration-in current) (configuration-in wanted) → ⊥) → (o : Outcome) → reading wanted ≡ o → Turned-away r
-    by-reading never Good e = absurd (never (reaches current wanted e c (valid-in current b g) (valid-in wanted c e)))
-    by-reading never (Refused why) e = record { why = why; told = called .answered ∙ ap told (wanted-refused current wanted buffer g e) }
+    by-reading never Good e = absurd (never (reaches current wanted e (complete .of-bytes) (first .valid) (configuration-valid wanted (accepted wanted e) (complete .of-bytes))))
+    by-reading never (Refused why) e = record { why = why; told = called .answered ∙ ap told (wanted-refused current wanted buffer (good first) e) }
 
 pub refused-lists-write-nothing : Refused-lists-write-nothing
 unfolding told left-by

@@ -15,26 +15,55 @@ use Rattle.sdo.specs.declared.types.Answer.{Answer}
 use Rattle.sdo.specs.declared.types.Answer.the-variants.{Silent, Aborted, Value, Written}
 use Rattle.records.specs.Layout.{Listed, listed, size}
 use Rattle.records.specs.Walk.{number, index-in, sub-in, size-in}
-use Rattle.records.specs.declared.types.Outcome.the-variants.{Good}
 use Rattle.records.specs.declared.types.Refusal.{Refusal}
-use Rattle.image.specs.Reading.{reading, configuration-in}
+use Rattle.entries.specs.Valid.{Valid}
+use Rattle.image.specs.Reading.{configuration-in}
 use Rattle.sdo.specs.Served.{after}
 use Rattle.sending.specs.Sending.{apart}
 use Rattle.gateway.specs.Restored.{Restored}
 use Rattle.promises.specs.Delivery.{frames-in}
 use Rattle.promises.specs.Running.{Event, frame, tick, happens, run}
 
--- ---- a list as it is sent: its records as frames are `frames-in` of `delivery`
+-- ---- "Take any two complete images whose values are in range and whose chains are ordered, and a buffer of 5,207 bytes"
 
--- the bytes that the returned number counts
+-- "the right count, all 611 records in place at their sizes and nothing after them"
+abbrev pub In-place : List Listed → List ℕ → Type 0
+In-place [] rest = rest ≡ []
+In-place (e ∷ es) rest =
+    (7 + size e ≤ length rest) × (index-in rest ≡ e .index) × (sub-in rest ≡ e .sub) × (size-in rest ≡ size e) × In-place es (drop (7 + size e) rest)
+
+pub record Complete (image : List ℕ) : Type 0 where
+  pub of-bytes : Bytes image
+  pub headed : 4 ≤ length image
+  pub count : little (take 4 image) ≡ configured
+  pub places : In-place listed (drop 4 image)
+
+-- and "whose values are in range", a REAL32 finite, "and whose chains are ordered"
+pub record Proper (image : List ℕ) : Type 0 where
+  pub complete : Complete image
+  pub valid : Valid (configuration-in image)
+
+-- a call of `restore_list` on them
+pub record Called (current wanted buffer buffer′ : List ℕ) (r : ℤ) : Type 0 where
+  pub first : Proper current
+  pub second : Proper wanted
+  pub room : 5207 ≤ length buffer
+  pub restored : Restored current wanted buffer buffer′ r
+
+-- "The list we make from them": the bytes that the returned number counts; its records as frames are `frames-in` of Delivery
 unfoldable pub list-left : ℤ → List ℕ → List ℕ
 list-left (pos n) buffer = take n buffer
 list-left (negsuc n) buffer = []
 
--- a unit holds a configuration
+-- ---- "sent to a controller that holds the first while no other configuration write comes between"
+
 pub record Holds (unit words : List ℕ) : Type 0 where
   pub long : length unit ≡ unit-size
   pub front : take configured unit ≡ words
+
+pub record Restoring (current wanted buffer buffer′ : List ℕ) (r : ℤ) (unit : List ℕ) : Type 0 where
+  pub called : Called current wanted buffer buffer′ r
+  pub holds : Holds unit (configuration-in current)
 
 -- "while no other configuration write comes between": a tick, a read, a refused frame, a write to 2500h
 abbrev pub Calm : Event → List ℕ → Type 0
@@ -47,22 +76,12 @@ pub data Sent : List (List ℕ) → List ℕ → List ℕ → Type 0 where
   meanwhile : {frames : List (List ℕ)} {unit unit′ : List ℕ} (e : Event) → Calm e unit → Sent frames (happens e unit) unit′ → Sent frames unit unit′
   send : {f : List ℕ} {frames : List (List ℕ)} {unit unit′ : List ℕ} (room : ℕ) → 8 ≤ room → Sent frames (happens (frame f room) unit) unit′ → Sent (f ∷ frames) unit unit′
 
--- "For any two complete images in range and in order, and a buffer of 5,207 bytes": a call of `restore_list`, and a unit that holds the first
-pub record Restoring (current wanted buffer buffer′ : List ℕ) (r : ℤ) (unit : List ℕ) : Type 0 where
-  pub bytes-first : Bytes current
-  pub bytes-second : Bytes wanted
-  pub good-first : reading current ≡ Good
-  pub good-second : reading wanted ≡ Good
-  pub room : 5207 ≤ length buffer
-  pub called : Restored current wanted buffer buffer′ r
-  pub holds : Holds unit (configuration-in current)
-
 -- ---- what is promised
 
 -- the call succeeds: in the yard, a list is made whatever the two images are; and 5,207 bytes are always enough
 abbrev pub Always-fits : Type 0
 Always-fits =
-    (current wanted buffer buffer′ : List ℕ) (r : ℤ) (unit : List ℕ) → Restoring current wanted buffer buffer′ r unit
+    (current wanted buffer buffer′ : List ℕ) (r : ℤ) → Called current wanted buffer buffer′ r
     → (r ≡ pos (length (list-left r buffer′))) × (length (list-left r buffer′) ≤ 5207) × (drop (length (list-left r buffer′)) buffer′ ≡ drop (length (list-left r buffer′)) buffer)
 
 -- "is accepted record by record": wherever the fitter is in the list, the next frame is answered 60h, its name, four zeros
@@ -89,7 +108,7 @@ Cut-anywhere =
 -- the count that the list begins with, and the records that it has, are the entries that differ
 abbrev pub Count-is-difference : Type 0
 Count-is-difference =
-    (current wanted buffer buffer′ : List ℕ) (r : ℤ) (unit : List ℕ) → Restoring current wanted buffer buffer′ r unit
+    (current wanted buffer buffer′ : List ℕ) (r : ℤ) → Called current wanted buffer buffer′ r
     → (little (take 4 buffer′) ≡ apart (configuration-in current) (configuration-in wanted))
     × (length (frames-in (list-left r buffer′)) ≡ apart (configuration-in current) (configuration-in wanted))
 
@@ -125,17 +144,6 @@ Shortest =
 
 -- ---- what is turned away
 
--- "the right count, all 611 records in place at their sizes and nothing after them"
-abbrev pub In-place : List Listed → List ℕ → Type 0
-In-place [] rest = rest ≡ []
-In-place (e ∷ es) rest =
-    (7 + size e ≤ length rest) × (index-in rest ≡ e .index) × (sub-in rest ≡ e .sub) × (size-in rest ≡ size e) × In-place es (drop (7 + size e) rest)
-
-pub record Complete (image : List ℕ) : Type 0 where
-  pub headed : 4 ≤ length image
-  pub count : little (take 4 image) ≡ configured
-  pub places : In-place listed (drop 4 image)
-
 -- a list of accepted writes
 pub data Accepts : List (List ℕ) → List ℕ → List ℕ → Type 0 where
   end : {unit : List ℕ} → Accepts [] unit unit
@@ -159,7 +167,7 @@ pub record Turned-away (r : ℤ) : Type 0 where
 -- "turned away exactly when no list of accepted writes could reach it": nobody is refused what could have been done
 abbrev pub Turned-away-exactly : Type 0
 Turned-away-exactly =
-    (current wanted buffer buffer′ : List ℕ) (r : ℤ) → Bytes current → Bytes wanted → reading current ≡ Good → Complete wanted → 5207 ≤ length buffer
+    (current wanted buffer buffer′ : List ℕ) (r : ℤ) → Proper current → Complete wanted → 5207 ≤ length buffer
     → Restored current wanted buffer buffer′ r
     → (Turned-away r → Reaches (configuration-in current) (configuration-in wanted) → ⊥)
     × ((Reaches (configuration-in current) (configuration-in wanted) → ⊥) → Turned-away r)
