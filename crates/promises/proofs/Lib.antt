@@ -6,6 +6,7 @@ pub mod Images
 pub mod Judged
 pub mod ListFrames
 pub mod Listed
+pub mod Proper
 pub mod Reached
 pub mod ReadBack
 pub mod RecordFrames

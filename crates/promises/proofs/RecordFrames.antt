@@ -51,7 +51,7 @@ no-abort Real32 = (omega arith, λ e. omega arith)
 
 -- ---- bytes joined
 
-bytes-join : (a b : List ℕ) → Bytes a → Bytes b → Bytes (a ++ b)
+pub bytes-join : (a b : List ℕ) → Bytes a → Bytes b → Bytes (a ++ b)
 bytes-join [] b p q i = q i
 bytes-join (x ∷ a) b p q zero = p 0
 bytes-join (x ∷ a) b p q (suc i) = bytes-join a b (λ j. p (suc j)) q i

@@ -2,21 +2,25 @@
 -- Assumes nothing.
 use mathlib.Core.Path.{_≡_, refl, sym, ap, subst, _∙_}
 use mathlib.Core.List.{List, _++_, flatMap, append-assoc, append-nil}
-use Prim.Native.Nat.{ℕ, suc, _+_}
+use mathlib.Core.Bool.{false}
+use mathlib.Core.Logic.{_⊎_, inl, inr}
+use Prim.Native.Nat.{ℕ, _+_}
 use native.Mathlib.Omega.{arith}
 use lib.IntN.{ℤ, pos, negsuc, negℤ}
 use lib.ListN.{length, take, drop, length-map}
 use lib.Seq.{drop-append-seam}
+use borrow.Author.Tests.{le-ltb}
 use Rattle.octets.specs.Little.{little, bytes}
+use Rattle.numbers.specs.Order.{below}
 use Rattle.sdo.specs.Answers.{size-of}
 use Rattle.sdo.specs.Frames.{reply, reply-to}
 use Rattle.records.specs.Layout.{record-in}
 use Rattle.records.specs.Walk.{number}
-use Rattle.records.specs.declared.types.Outcome.{Outcome}
 use Rattle.records.specs.declared.types.Outcome.the-variants.{Good, Refused}
+use Rattle.records.specs.declared.types.Refusal.{Refusal}
+use Rattle.records.specs.declared.types.Refusal.the-variants.{OutOfRange, OutOfOrder}
 use Rattle.image.specs.Reading.{reading, configuration-in}
-use Rattle.image.proofs.reading.Acceptance.{accepted}
-use Rattle.image.proofs.ImageTrips.{configuration-valid}
+use Rattle.image.proofs.reading.Acceptance.{accepted, not-good}
 use Rattle.sending.specs.Sending.{sends, apart}
 use Rattle.sending.proofs.Counting.{sends-apart}
 use Rattle.sending.proofs.Totals.{total-length}
@@ -29,9 +33,10 @@ use Rattle.gateway.specs.Restored.{told, outcome}
 use Rattle.promises.specs.Delivery.{frames-in}
 use Rattle.gateway.proofs.LengthLaws.{list-short}
 use Rattle.promises.proofs.ListFrames.{frame-at, count-is, list-long, list-frames}
-use Rattle.promises.specs.Restoring.{list-left, Called, Sent, Restoring, Always-fits, Each-accepted, Arrives, Cut-anywhere, Count-is-difference, one-record, record-bytes, Shortest, Reaches, Turned-away, Turned-away-exactly, Refused-lists-write-nothing, One-list}
+use Rattle.promises.specs.Restoring.{list-left, Called, Sent, Restoring, Always-fits, Each-accepted, Arrives, Cut-anywhere, Count-is-difference, one-record, record-bytes, Shortest, Reaches, Turned-away-exactly, Refused-lists-write-nothing, One-list}
 use Rattle.promises.proofs.Listed.{wanted-refused, number-is, buffer-is, left-is}
-use Rattle.promises.proofs.Reached.{only-valid, good, reaches}
+use Rattle.promises.proofs.Proper.{good, proper, proper-good, read-as}
+use Rattle.promises.proofs.Reached.{only-valid, reaches}
 use Rattle.promises.proofs.Spent.{paid}
 use Rattle.promises.proofs.Underway.{Going, begun, ended, next, further}
 
@@ -71,8 +76,8 @@ module _ {current wanted buffer buffer′ : List ℕ} {r : ℤ} {unit : List ℕ
   there : {sent rest : List (List ℕ)} {unit′ : List ℕ} → frames-in (list-left r buffer′) ≡ sent ++ rest → Sent sent unit unit′ → Going current wanted rest unit′
   there e s =
       let c = h .called in
-      further current wanted (good-second c) (c .first .valid) (c .second .valid) s
-      (subst (λ (f : List (List ℕ)). Going current wanted f unit) (sym (ap frames-in (the-list c)) ∙ e) (begun current wanted (good-second c) (h .holds)))
+      further current wanted (c .first) (c .second) s
+      (subst (λ (f : List (List ℕ)). Going current wanted f unit) (sym (ap frames-in (the-list c)) ∙ e) (begun current wanted (c .second) (h .holds)))
 
 -- ---- the promises
 
@@ -88,8 +93,7 @@ always-fits current wanted buffer buffer′ r h =
 pub each-accepted : Each-accepted
 unfolding reply-to reply bytes
 each-accepted current wanted buffer buffer′ r unit h sent rest f unit′ e s room k =
-    let c = h .called in
-    rw (next current wanted (good-second c) (c .first .valid) (c .second .valid) (there h e s) .answers room k)
+    rw (next current wanted (h .called .first) (h .called .second) (there h e s) .answers room k)
 
 pub arrives : Arrives
 arrives current wanted buffer buffer′ r unit h unit′ s =
@@ -113,25 +117,24 @@ shortest current wanted buffer buffer′ r unit h events e =
 
 -- ---- what is turned away
 
-no-list : (n why : ℕ) → pos n ≡ negℤ (pos (10 + why)) → ⊥
-no-list n why e =
-    let more : 10 + why ≡ suc (9 + why) = omega arith in
-    let under : pos n ≡ negsuc (9 + why) = e ∙ ap (λ (m : ℕ). negℤ (pos m)) more in
-    let z : _≡_ {A = ℕ} 0 1 = cc in
-    omega arith
-
 pub turned-away-exactly : Turned-away-exactly
-unfolding told
-turned-away-exactly current wanted buffer buffer′ r first complete room called = (
-  λ t reach.
-      let g = good (record { complete = complete; valid = only-valid reach (first .valid) }) in
-      no-list (length (list-of current wanted)) (number (t .why)) (sym (number-is (good first) g room called) ∙ t .told),
-  λ never. by-reading never (reading wanted) refl,
-)
+unfolding told below number
+turned-away-exactly current wanted buffer buffer′ r first complete room called unit h = go (read-as complete)
   where
-    by-reading : (Reaches (configuration-in current) (configuration-in wanted) → ⊥) → (o : Outcome) → reading wanted ≡ o → Turned-away r
-    by-reading never Good e = absurd (never (reaches current wanted e (complete .of-bytes) (first .valid) (configuration-valid wanted (accepted wanted e) (complete .of-bytes))))
-    by-reading never (Refused why) e = record { why = why; told = called .answered ∙ ap told (wanted-refused current wanted buffer (good first) e) }
+    refused : {why : Refusal} → reading wanted ≡ Refused why → (r ≡ told (Wanted why)) × (Reaches unit (configuration-in wanted) → ⊥)
+    refused e = (
+      called .answered ∙ ap told (wanted-refused current wanted buffer (good first) e),
+      λ reach. not-good (sym e ∙ proper-good complete (only-valid h reach (first .valid))),
+    )
+
+    go : (reading wanted ≡ Good) ⊎ ((reading wanted ≡ Refused OutOfRange) ⊎ (reading wanted ≡ Refused OutOfOrder))
+        → ((below r (pos 0) ≡ false) × Reaches unit (configuration-in wanted))
+        ⊎ (((r ≡ negℤ (pos 15)) ⊎ (r ≡ negℤ (pos 16))) × (Reaches unit (configuration-in wanted) → ⊥))
+    go (inl e) =
+        let n = length (list-of current wanted) in
+        inl (ap (λ (z : ℤ). below z (pos 0)) (number-is (good first) e room called) ∙ le-ltb n 0 (omega arith), reaches current wanted first (proper (complete .of-bytes) (accepted wanted e)) h)
+    go (inr (inl e)) = let t = refused e in inr (inl (t .0), t .1)
+    go (inr (inr e)) = let t = refused e in inr (inr (t .0), t .1)
 
 pub refused-lists-write-nothing : Refused-lists-write-nothing
 unfolding told left-by

@@ -10,14 +10,12 @@ use Rattle.dictionary.specs.Names.{configured}
 use Rattle.dictionary.specs.Unit.{unit-size}
 use Rattle.entries.proofs.Configuration.{can-be-written, in-unit}
 use Rattle.dictionary.proofs.naming.NameLaws as Names
-use Rattle.entries.specs.Valid.{Valid}
 use Rattle.sdo.specs.Answers.{stored, answer}
 use Rattle.sdo.specs.declared.types.Answer.{Answer}
 use Rattle.sdo.specs.declared.types.Answer.the-variants.{Silent, Aborted, Value, Written}
 use Rattle.sdo.specs.Served.{after}
 use Rattle.records.specs.Layout.{listed}
-use Rattle.records.specs.declared.types.Outcome.the-variants.{Good}
-use Rattle.image.specs.Reading.{reading, configuration-in}
+use Rattle.image.specs.Reading.{configuration-in}
 use Rattle.image.proofs.reading.PlaceLaws as Places
 use Rattle.image.proofs.LoadLaws.{values-length}
 use Rattle.sending.proofs.Underway as Sending
@@ -26,7 +24,8 @@ use Rattle.promises.specs.Delivery.{frames-in}
 use Rattle.promises.proofs.ListFrames.{frame-at, answered, list-frames}
 use Rattle.controller.proofs.TickLaws as Tick
 use Rattle.promises.specs.Running.{Event, frame, tick, happens}
-use Rattle.promises.specs.Restoring.{Calm, Sent, Holds}
+use Rattle.promises.specs.Restoring.{Proper, Calm, Sent, Holds}
+use Rattle.promises.proofs.Proper.{good}
 use Rattle.promises.proofs.Running.{sizes}
 
 -- ---- a calm event keeps the configuration's words
@@ -78,10 +77,10 @@ module _ (current wanted : List ℕ) where
 
   -- all of them at first, and none at the end
 
-  pub begun : {unit : List ℕ} → reading wanted ≡ Good → Holds unit (configuration-in current) → Going (frames-in (list-of current wanted)) unit
+  pub begun : {unit : List ℕ} → Proper wanted → Holds unit (configuration-in current) → Going (frames-in (list-of current wanted)) unit
   unfolding changes
-  begun {unit} good h =
-      record { slots = changes current wanted; left = Sending.begun (front-is unit (h .front)); as-frames = sym (list-frames current wanted good); long = h .long }
+  begun {unit} second h =
+      record { slots = changes current wanted; left = Sending.begun (front-is unit (h .front)); as-frames = sym (list-frames current wanted (good second)); long = h .long }
 
   pub ended : {unit : List ℕ} → Going [] unit → Holds unit (configuration-in wanted)
   ended {unit} g = record { long = g .long; front = ext-getD 0 (take configured unit) (configuration-in wanted) (as-long ∙ sym (all-words wanted)) each }
@@ -97,7 +96,7 @@ module _ (current wanted : List ℕ) where
       each : (k : ℕ) → k < length (take configured unit) → getD (take configured unit) k 0 ≡ getD (configuration-in wanted) k 0
       each k h = let l : k < configured = omega (arith, as-long) in getD-take configured unit k 0 l ∙ go (g .slots) (g .left) (g .as-frames) k l
 
-  module _ (good : reading wanted ≡ Good) (first : Valid (configuration-in current)) (second : Valid (configuration-in wanted)) where
+  module _ (first : Proper current) (second : Proper wanted) where
     pub next : {f : List ℕ} {rest : List (List ℕ)} {unit : List ℕ} → Going (f ∷ rest) unit → Next f rest unit
     unfolding stored
     next {f} {rest} {unit} g = go (g .slots) (g .left) (g .as-frames)
@@ -114,7 +113,7 @@ module _ (current wanted : List ℕ) where
               inside = inside;
               is = same;
               answers = λ room h.
-                  ap (λ (x : List ℕ). answer unit x room) (sym same) ∙ answered wanted good slot inside unit room h ∙ ap (stored slot word) (Sending.accepted first second u there);
+                  ap (λ (x : List ℕ). answer unit x room) (sym same) ∙ answered wanted (good second) slot inside unit room h ∙ ap (stored slot word) (Sending.accepted (first .valid) (second .valid) u there);
               then = record { slots = slots; left = Sending.step u there; as-frames = cc; long = length-set unit slot word ∙ g .long };
             }
 

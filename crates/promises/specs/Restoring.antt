@@ -1,12 +1,14 @@
 -- What is promised of a restore list: of the bytes and the number that `restore_list` leaves to C, sent to a unit as frames.
 -- Assumes nothing.
 use Prim.Native.Nat.{ℕ, _+_, _<_, _≤_}
+use mathlib.Core.Bool.{false}
 use mathlib.Core.Logic.{_⊎_}
 use mathlib.Core.Path.{_≡_}
 use mathlib.Core.List.{List, [], _∷_, _++_}
 use lib.IntN.{ℤ, pos, negsuc, negℤ}
 use lib.ListN.{length, getD, take, drop}
 use Rattle.octets.specs.Little.{little, Bytes}
+use Rattle.numbers.specs.Order.{below}
 use Rattle.dictionary.specs.Names.{configured}
 use Rattle.dictionary.specs.Unit.{unit-size}
 use Rattle.sdo.specs.Answers.{size-of, answer}
@@ -14,8 +16,7 @@ use Rattle.sdo.specs.Frames.{name-in, reply-to}
 use Rattle.sdo.specs.declared.types.Answer.{Answer}
 use Rattle.sdo.specs.declared.types.Answer.the-variants.{Silent, Aborted, Value, Written}
 use Rattle.records.specs.Layout.{Listed, listed, size}
-use Rattle.records.specs.Walk.{number, index-in, sub-in, size-in}
-use Rattle.records.specs.declared.types.Refusal.{Refusal}
+use Rattle.records.specs.Walk.{index-in, sub-in, size-in}
 use Rattle.entries.specs.Valid.{Valid}
 use Rattle.image.specs.Reading.{configuration-in}
 use Rattle.sdo.specs.Served.{after}
@@ -150,27 +151,21 @@ pub data Accepts : List (List ℕ) → List ℕ → List ℕ → Type 0 where
   next : {f : List ℕ} {frames : List (List ℕ)} {unit unit′ : List ℕ} (slot word : ℕ) → Bytes f → answer unit f 8 ≡ Written slot word
       → Accepts frames (after unit (Written slot word)) unit′ → Accepts (f ∷ frames) unit unit′
 
--- one configuration is reached from another
-pub record Reaches (first second : List ℕ) : Type 0 where
-  pub unit : List ℕ
-  pub unit′ : List ℕ
+-- one that takes a unit to a configuration
+pub record Reaches (unit words : List ℕ) : Type 0 where
   pub frames : List (List ℕ)
-  pub before : Holds unit first
+  pub unit′ : List ℕ
   pub accepts : Accepts frames unit unit′
-  pub after : Holds unit′ second
+  pub after : Holds unit′ words
 
--- the number says that the wanted image is refused
-pub record Turned-away (r : ℤ) : Type 0 where
-  pub why : Refusal
-  pub told : r ≡ negℤ (pos (10 + number why))
-
--- "turned away exactly when no list of accepted writes could reach it": nobody is refused what could have been done
+-- "Given such a first image and buffer, a second one with the right count, all 611 records in place at their sizes and nothing after them is turned away
+-- exactly when no list of accepted writes could reach it": from any unit that holds the first. The number is then -(10+5), range or not finite, or -(10+6), chain
 abbrev pub Turned-away-exactly : Type 0
 Turned-away-exactly =
     (current wanted buffer buffer′ : List ℕ) (r : ℤ) → Proper current → Complete wanted → 5207 ≤ length buffer
-    → Restored current wanted buffer buffer′ r
-    → (Turned-away r → Reaches (configuration-in current) (configuration-in wanted) → ⊥)
-    × ((Reaches (configuration-in current) (configuration-in wanted) → ⊥) → Turned-away r)
+    → Restored current wanted buffer buffer′ r → (unit : List ℕ) → Holds unit (configuration-in current)
+    → ((below r (pos 0) ≡ false) × Reaches unit (configuration-in wanted))
+    ⊎ (((r ≡ negℤ (pos 15)) ⊎ (r ≡ negℤ (pos 16))) × (Reaches unit (configuration-in wanted) → ⊥))
 
 -- ---- refusals, and one answer
 
