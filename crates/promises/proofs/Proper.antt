@@ -7,7 +7,7 @@ use mathlib.Core.Logic.{_⊎_, inl, inr}
 use Prim.Native.Nat.{ℕ, suc, _+_, _<_, _≤_}
 use native.Mathlib.Omega.{arith}
 use lib.Dec.{eqb, ltb}
-use lib.ListN.{length, getD, take, drop, length-drop}
+use lib.ListN.{length, getD, take, drop, length-drop, take-append-drop}
 use borrow.Author.Tests.{le-ltb, eq-eqb}
 use Rattle.octets.specs.Little.{little, bytes, Bytes}
 use Rattle.octets.proofs.little.ByteLaws.{are-bytes}
@@ -26,11 +26,11 @@ use Rattle.records.specs.declared.types.Outcome.the-variants.{Good, Refused}
 use Rattle.records.proofs.RightLaws.{All-right}
 use Rattle.records.proofs.SizeLaws.{listed-extent}
 use Rattle.image.specs.Reading.{in-order, reading, finished, configuration-in}
-use Rattle.image.proofs.reading.Acceptance.{Accepted, accepts}
+use Rattle.image.proofs.reading.Acceptance.{Accepted, accepted, accepts}
 use Rattle.image.proofs.reading.PlaceLaws as Places
 use Rattle.image.proofs.ChainTrips.{linked-order}
-use Rattle.image.proofs.ImageTrips.{image-accepted, configuration-valid}
-use Rattle.promises.specs.Restoring.{In-place, Complete, Proper}
+use Rattle.image.proofs.ImageTrips.{image-accepted, configuration-valid, bytes-again}
+use Rattle.promises.specs.Restoring.{In-place, Complete, Proper, Holds}
 use Rattle.promises.proofs.RecordFrames.{bytes-join}
 use Rattle.promises.proofs.Slots.{own-range}
 
@@ -140,6 +140,12 @@ proper {image} b a =
       };
       valid = configuration-valid image a b;
     }
+
+-- it is saved again, byte for byte, by a unit that holds its configuration
+pub saved-again : {image unit : List ℕ} → Proper image → Holds unit (configuration-in image) → image-of unit ≡ image
+saved-again {image} {unit} p h =
+    ap image-of (sym (take-append-drop configured unit) ∙ ap (λ (words : List ℕ). words ++ drop configured unit) (h .front))
+    ∙ bytes-again image (accepted image (good p)) (p .complete .of-bytes) (drop configured unit)
 
 -- ---- a unit's own image
 

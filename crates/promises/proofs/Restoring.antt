@@ -1,7 +1,7 @@
 -- The promises of a restore list.
 -- Assumes nothing.
 use mathlib.Core.Path.{_≡_, refl, sym, ap, subst, _∙_}
-use mathlib.Core.List.{List, _++_, flatMap, append-assoc, append-nil}
+use mathlib.Core.List.{List, [], _∷_, _++_, flatMap, append-assoc, append-nil}
 use mathlib.Core.Bool.{false}
 use mathlib.Core.Logic.{_⊎_, inl, inr}
 use Prim.Native.Nat.{ℕ, _+_}
@@ -22,7 +22,7 @@ use Rattle.records.specs.declared.types.Refusal.the-variants.{OutOfRange, OutOf
 use Rattle.image.specs.Reading.{reading, configuration-in}
 use Rattle.image.proofs.reading.Acceptance.{accepted, not-good}
 use Rattle.sending.specs.Sending.{sends, apart}
-use Rattle.sending.proofs.Counting.{sends-apart}
+use Rattle.sending.proofs.Counting.{sends-apart, none-apart}
 use Rattle.sending.proofs.Totals.{total-length}
 use Rattle.sending.proofs.Underway.{either}
 use Rattle.lists.specs.Changes.{changes, list-of}
@@ -33,9 +33,9 @@ use Rattle.gateway.specs.Restored.{told, outcome}
 use Rattle.promises.specs.Delivery.{frames-in}
 use Rattle.gateway.proofs.LengthLaws.{list-short}
 use Rattle.promises.proofs.ListFrames.{frame-at, count-is, list-long, list-frames}
-use Rattle.promises.specs.Restoring.{list-left, Called, Sent, Restoring, Always-fits, Each-accepted, Arrives, Cut-anywhere, Count-is-difference, one-record, record-bytes, Shortest, Reaches, Turned-away-exactly, Refused-lists-write-nothing, One-list}
+use Rattle.promises.specs.Restoring.{list-left, Called, Sent, Restoring, Always-fits, Each-accepted, Arrives, Cut-anywhere, Count-is-difference, Equal-images, one-record, record-bytes, Shortest, Reaches, Turned-away-exactly, Refused-lists-write-nothing, One-list}
 use Rattle.promises.proofs.Listed.{wanted-refused, number-is, buffer-is, left-is}
-use Rattle.promises.proofs.Proper.{good, proper, proper-good, read-as}
+use Rattle.promises.proofs.Proper.{good, proper, proper-good, read-as, saved-again}
 use Rattle.promises.proofs.Reached.{only-valid, reaches}
 use Rattle.promises.proofs.Spent.{paid}
 use Rattle.promises.proofs.Underway.{Going, begun, ended, next, further}
@@ -97,13 +97,26 @@ each-accepted current wanted buffer buffer′ r unit h sent rest f unit′ e s r
 
 pub arrives : Arrives
 arrives current wanted buffer buffer′ r unit h unit′ s =
-    ended current wanted (there h (sym (append-nil (frames-in (list-left r buffer′)))) s)
+    let end = ended current wanted (there h (sym (append-nil (frames-in (list-left r buffer′)))) s) in
+    (end, saved-again (h .called .second) end)
 
 pub cut-anywhere : Cut-anywhere
 cut-anywhere current wanted buffer buffer′ r unit h sent rest unit′ e s slot l = either (there h e s .left) slot l
 
 pub count-is-difference : Count-is-difference
 count-is-difference current wanted buffer buffer′ r h = (counted h, frames-many h)
+
+pub equal-images : Equal-images
+unfolding list-of bytes flatMap
+equal-images image buffer buffer′ r h =
+    let a = configuration-in image in
+    let none : changes image image ≡ [] = empty (changes image image) (many h ∙ none-apart a a (λ k l. refl)) in
+    let list : list-of image image ≡ 0 ∷ 0 ∷ 0 ∷ 0 ∷ [] = ap (λ (slots : List ℕ). bytes 4 (length slots) ++ flatMap (record-in image) slots) none in
+    (number-is (good-first h) (good-second h) (h .room) (h .restored) ∙ ap (λ (l : List ℕ). pos (length l)) list, the-list h ∙ list)
+  where
+    empty : (l : List ℕ) → length l ≡ 0 → l ≡ []
+    empty [] e = refl
+    empty (x ∷ l) e = absurd (omega arith)
 
 pub shortest : Shortest
 unfolding changes

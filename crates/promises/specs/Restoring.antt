@@ -15,7 +15,7 @@ use Rattle.sdo.specs.Answers.{size-of, answer}
 use Rattle.sdo.specs.Frames.{name-in, reply-to}
 use Rattle.sdo.specs.declared.types.Answer.{Answer}
 use Rattle.sdo.specs.declared.types.Answer.the-variants.{Silent, Aborted, Value, Written}
-use Rattle.records.specs.Layout.{Listed, listed, size}
+use Rattle.records.specs.Layout.{Listed, listed, size, image-of}
 use Rattle.records.specs.Walk.{index-in, sub-in, size-in}
 use Rattle.entries.specs.Valid.{Valid}
 use Rattle.image.specs.Reading.{configuration-in}
@@ -92,11 +92,11 @@ Each-accepted =
     → (sent rest : List (List ℕ)) (f unit′ : List ℕ) → frames-in (list-left r buffer′) ≡ sent ++ (f ∷ rest) → Sent sent unit unit′
     → (room : ℕ) → 8 ≤ room → reply-to f (answer unit′ f room) ≡ 0x60 ∷ name-in f ++ (0 ∷ 0 ∷ 0 ∷ 0 ∷ [])
 
--- "and leaves the second": after the last frame every entry reads as in the wanted image
+-- "and leaves the second": after the last frame every entry reads as in the wanted image, and what the unit would save is that image, byte for byte
 abbrev pub Arrives : Type 0
 Arrives =
     (current wanted buffer buffer′ : List ℕ) (r : ℤ) (unit : List ℕ) → Restoring current wanted buffer buffer′ r unit
-    → (unit′ : List ℕ) → Sent (frames-in (list-left r buffer′)) unit unit′ → Holds unit′ (configuration-in wanted)
+    → (unit′ : List ℕ) → Sent (frames-in (list-left r buffer′)) unit unit′ → Holds unit′ (configuration-in wanted) × (image-of unit′ ≡ wanted)
 
 -- "Cut after any record, every entry holds its first or second value": a pulled plug leaves nothing that was in neither image
 abbrev pub Cut-anywhere : Type 0
@@ -112,6 +112,10 @@ Count-is-difference =
     (current wanted buffer buffer′ : List ℕ) (r : ℤ) → Called current wanted buffer buffer′ r
     → (little (take 4 buffer′) ≡ apart (configuration-in current) (configuration-in wanted))
     × (length (frames-in (list-left r buffer′)) ≡ apart (configuration-in current) (configuration-in wanted))
+
+-- "two equal images give four zero bytes"
+abbrev pub Equal-images : Type 0
+Equal-images = (image buffer buffer′ : List ℕ) (r : ℤ) → Called image image buffer buffer′ r → (r ≡ pos 4) × (list-left r buffer′ ≡ 0 ∷ 0 ∷ 0 ∷ 0 ∷ [])
 
 -- an accepted write counts as one record
 abbrev pub one-record : Answer → ℕ
