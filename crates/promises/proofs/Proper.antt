@@ -13,6 +13,7 @@ use Rattle.octets.specs.Little.{little, bytes, Bytes}
 use Rattle.octets.proofs.little.ByteLaws.{are-bytes}
 use Rattle.numbers.specs.Choice.{first}
 use Rattle.dictionary.specs.Names.{configured}
+use Rattle.dictionary.specs.Unit.{unit-size}
 use Rattle.dictionary.specs.declared.types.Range.{Range}
 use Rattle.dictionary.proofs.naming.NameLaws as Names
 use Rattle.entries.specs.Judge.{in-range, is-good}
@@ -29,9 +30,10 @@ use Rattle.image.specs.Reading.{in-order, reading, finished, configuration-in}
 use Rattle.image.proofs.reading.Acceptance.{Accepted, accepted, accepts}
 use Rattle.image.proofs.reading.PlaceLaws as Places
 use Rattle.image.proofs.ChainTrips.{linked-order}
-use Rattle.image.proofs.ImageTrips.{image-accepted, configuration-valid, bytes-again}
+use Rattle.image.proofs.ImageTrips.{image-accepted, configuration-back, configuration-valid, bytes-again}
 use Rattle.promises.specs.Restoring.{In-place, Complete, Proper, Holds}
 use Rattle.promises.proofs.RecordFrames.{bytes-join}
+use Rattle.promises.proofs.Running.{sizes}
 use Rattle.promises.proofs.Slots.{own-range}
 
 -- ---- records in place
@@ -163,7 +165,11 @@ records-bytes [] words = λ i. omega arith
 records-bytes (e ∷ es) [] = bytes-join (record-of e 0) (records es []) (record-bytes e 0) (records-bytes es [])
 records-bytes (e ∷ es) (w ∷ words) = bytes-join (record-of e w) (records es words) (record-bytes e w) (records-bytes es words)
 
-pub own-image : (unit : List ℕ) → configured ≤ length unit → Valid unit → Proper (image-of unit)
+-- is proper, and the unit holds it
+pub own-image : (unit : List ℕ) → length unit ≡ unit-size → Valid unit → Proper (image-of unit) × Holds unit (configuration-in (image-of unit))
 unfolding image-of
 own-image unit long v =
-    proper (bytes-join (bytes 4 configured) (records listed unit) (are-bytes 4 configured) (records-bytes listed unit)) (image-accepted unit v long)
+    let all : configured ≤ length unit = omega (arith, sizes) in (
+      proper (bytes-join (bytes 4 configured) (records listed unit) (are-bytes 4 configured) (records-bytes listed unit)) (image-accepted unit v all),
+      record { long = long; front = sym (configuration-back unit v all) },
+    )

@@ -1,7 +1,7 @@
 -- The promises of a restore list.
 -- Assumes nothing.
 use mathlib.Core.Path.{_≡_, refl, sym, ap, subst, _∙_}
-use mathlib.Core.List.{List, [], _∷_, _++_, flatMap, append-assoc, append-nil}
+use mathlib.Core.List.{List, [], _∷_, _++_, map, flatMap, append-assoc, append-nil}
 use mathlib.Core.Bool.{false}
 use mathlib.Core.Logic.{_⊎_, inl, inr}
 use Prim.Native.Nat.{ℕ, _+_}
@@ -14,7 +14,7 @@ use Rattle.octets.specs.Little.{little, bytes}
 use Rattle.numbers.specs.Order.{below}
 use Rattle.sdo.specs.Answers.{size-of}
 use Rattle.sdo.specs.Frames.{reply, reply-to}
-use Rattle.records.specs.Layout.{record-in}
+use Rattle.records.specs.Layout.{record-in, image-of}
 use Rattle.records.specs.Walk.{number}
 use Rattle.records.specs.declared.types.Outcome.the-variants.{Good, Refused}
 use Rattle.records.specs.declared.types.Refusal.{Refusal}
@@ -24,7 +24,7 @@ use Rattle.image.proofs.reading.Acceptance.{accepted, not-good}
 use Rattle.sending.specs.Sending.{sends, apart}
 use Rattle.sending.proofs.Counting.{sends-apart, none-apart}
 use Rattle.sending.proofs.Totals.{total-length}
-use Rattle.sending.proofs.Underway.{either}
+use Rattle.sending.proofs.Underway as Sending
 use Rattle.lists.specs.Changes.{changes, list-of}
 use Rattle.lists.specs.Listing.{left-by}
 use Rattle.lists.specs.declared.types.Made.{Made}
@@ -33,12 +33,12 @@ use Rattle.gateway.specs.Restored.{told, outcome}
 use Rattle.promises.specs.Delivery.{frames-in}
 use Rattle.gateway.proofs.LengthLaws.{list-short}
 use Rattle.promises.proofs.ListFrames.{frame-at, count-is, list-long, list-frames}
-use Rattle.promises.specs.Restoring.{list-left, Called, Sent, Restoring, Always-fits, Each-accepted, Arrives, Cut-anywhere, Count-is-difference, Equal-images, one-record, record-bytes, Shortest, Reaches, Turned-away-exactly, Refused-lists-write-nothing, One-list}
+use Rattle.promises.specs.Restoring.{Proper, Called, list-left, Holds, Sent, Restoring, Always-fits, Each-accepted, Arrives, Cut-anywhere, Taken-up-again, Count-is-difference, Equal-images, one-record, record-bytes, Shortest, Reaches, Turned-away-exactly, Refused-lists-write-nothing, One-list}
 use Rattle.promises.proofs.Listed.{wanted-refused, number-is, buffer-is, left-is}
-use Rattle.promises.proofs.Proper.{good, proper, proper-good, read-as, saved-again}
+use Rattle.promises.proofs.Proper.{good, proper, proper-good, read-as, saved-again, own-image}
 use Rattle.promises.proofs.Reached.{only-valid, reaches}
 use Rattle.promises.proofs.Spent.{paid}
-use Rattle.promises.proofs.Underway.{Going, begun, ended, next, further}
+use Rattle.promises.proofs.Underway.{Going, begun, ended, next, further, front-is}
 
 -- ---- a call, and a unit that holds the current configuration
 
@@ -101,7 +101,20 @@ arrives current wanted buffer buffer′ r unit h unit′ s =
     (end, saved-again (h .called .second) end)
 
 pub cut-anywhere : Cut-anywhere
-cut-anywhere current wanted buffer buffer′ r unit h sent rest unit′ e s slot l = either (there h e s .left) slot l
+cut-anywhere current wanted buffer buffer′ r unit h sent rest unit′ e s slot l = Sending.either (there h e s .left) slot l
+
+pub taken-up-again : Taken-up-again
+unfolding changes
+taken-up-again current wanted buffer buffer′ r unit h sent rest unit′ e s again again′ n room restored =
+    let g = there h e s in
+    let c = h .called in
+    let v = Sending.valid (c .first .valid) (c .second .valid) (g .left) in
+    let own : Proper (image-of unit′) × Holds unit′ (configuration-in (image-of unit′)) = own-image unit′ (g .long) v in
+    let called : Called (image-of unit′) wanted again again′ n = record { first = own .0; second = c .second; room = room; restored = restored } in
+    let same = Sending.again (Sending.as-well (g .left) (λ k l. sym (front-is unit′ (own .1 .front) k l))) in (
+      record { called = called; holds = own .1 },
+      ap frames-in (the-list called) ∙ list-frames (image-of unit′) wanted (good-second called) ∙ ap (map (frame-at wanted)) same ∙ g .as-frames,
+    )
 
 pub count-is-difference : Count-is-difference
 count-is-difference current wanted buffer buffer′ r h = (counted h, frames-many h)

@@ -106,6 +106,14 @@ Cut-anywhere =
     → (slot : ℕ) → slot < configured
     → (getD unit′ slot 0 ≡ getD (configuration-in current) slot 0) ⊎ (getD unit′ slot 0 ≡ getD (configuration-in wanted) slot 0)
 
+-- so a cut list can be taken up again at no cost: made anew, from the image that the unit would now save, it is what was not sent, frame for frame
+abbrev pub Taken-up-again : Type 0
+Taken-up-again =
+    (current wanted buffer buffer′ : List ℕ) (r : ℤ) (unit : List ℕ) → Restoring current wanted buffer buffer′ r unit
+    → (sent rest : List (List ℕ)) (unit′ : List ℕ) → frames-in (list-left r buffer′) ≡ sent ++ rest → Sent sent unit unit′
+    → (again again′ : List ℕ) (s : ℤ) → 5207 ≤ length again → Restored (image-of unit′) wanted again again′ s
+    → Restoring (image-of unit′) wanted again again′ s unit′ × (frames-in (list-left s again′) ≡ rest)
+
 -- the count that the list begins with, and the records that it has, are the entries that differ
 abbrev pub Count-is-difference : Type 0
 Count-is-difference =

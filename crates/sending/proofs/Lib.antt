@@ -2,6 +2,7 @@ pub mod Agenda
 pub mod Clock
 pub mod Counting
 pub mod Picked
+pub mod Resumed
 pub mod Totals
 pub mod Turns
 pub mod Underway

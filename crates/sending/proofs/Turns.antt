@@ -13,7 +13,7 @@ use Rattle.numbers.proofs.Choices.{chosen}
 use Rattle.dictionary.specs.Names.{configured}
 use Rattle.dictionary.proofs.Tabulate.{tabulate}
 use Rattle.sending.specs.Sending.{order, picked, differs, grows, rises, falls, sent, sends}
-use Rattle.sending.proofs.Agenda.{Call, call, turns, turn-of, call-at, place, agenda-computed, called, place-inside}
+use Rattle.sending.proofs.Agenda.{Call, call, turns, turn-of, call-at, place, agenda-computed, called, turn-at, place-inside}
 use Rattle.sending.proofs.Clock.{due, stage, stage-in}
 use Rattle.sending.proofs.Picked.{picked-reverse}
 
@@ -55,7 +55,7 @@ module _ (a b : List ℕ) where
 
   -- ---- a slot's own call
 
-  pub way : (up : Bool) (slot : ℕ) → goes (call up slot) ≡ true → grows a b slot ≡ up
+  way : (up : Bool) (slot : ℕ) → goes (call up slot) ≡ true → grows a b slot ≡ up
   unfolding goes first rises falls
   way true slot e = and-eq-true-iff (differs a b slot) (grows a b slot) .0 e .1
   way false slot e = not-true (grows a b slot) (and-eq-true-iff (differs a b slot) (not (grows a b slot)) .0 e .1)
@@ -71,6 +71,11 @@ module _ (a b : List ℕ) where
   pub due-call : (k t : ℕ) → k < configured → due a b k ≡ t → call-at t ≡ call (grows a b k) k
   unfolding due
   due-call k t h e = rw (← e) (called (grows a b k) k h)
+
+  -- and at which something is sent it is the slot's turn
+  pub due-now : (t : ℕ) → t < turns → goes (call-at t) ≡ true → due a b (call-at t .slot) ≡ t
+  unfolding due
+  due-now t h g = let c = call-at t in ap (λ (up : Bool). turn-of up (c .slot)) (way (c .up) (c .slot) g) ∙ turn-at t h
 
   alike : (k : ℕ) → differs a b k ≡ false → getD a k 0 ≡ getD b k 0
   unfolding differs

@@ -18,9 +18,10 @@ use Rattle.entries.specs.Valid.{Valid}
 use Rattle.entries.specs.declared.types.Verdict.the-variants.{Good}
 use Rattle.entries.proofs.Allowed.{allowed}
 use Rattle.sending.specs.Sending.{sends}
-use Rattle.sending.proofs.Agenda.{Call, turns, turn-of, call-at, turn-at, slot-inside}
+use Rattle.sending.proofs.Agenda.{Call, turns, call-at, slot-inside}
 use Rattle.sending.proofs.Clock.{Stands, due, stage, stage-in, stage-valid}
-use Rattle.sending.proofs.Turns.{passing, goes, coming, all-coming, way, due-call, not-due, past-due, quiet, due-early}
+use Rattle.sending.proofs.Turns.{passing, goes, coming, all-coming, due-now, due-call, not-due, past-due, quiet, due-early}
+use Rattle.sending.proofs.Resumed.{resumed}
 
 -- ---- underway before a turn
 
@@ -71,12 +72,6 @@ module _ {a b : List ℕ} {slot : ℕ} {left words : List ℕ} where
       let s = sending u in
       subst (λ (x : ℕ). x < configured) (sym (s .slot-is)) (slot-inside (s .turn) (omega (arith, s .all)))
 
-  due-now : (s : Sending a b slot left words) → due a b slot ≡ s .turn
-  unfolding due
-  due-now s =
-      let c = call-at (s .turn) in
-      ap (due a b) (s .slot-is) ∙ ap (λ (up : Bool). turn-of up (c .slot)) (way a b (c .up) (c .slot) (s .goes-on)) ∙ turn-at (s .turn) (omega (arith, s .all))
-
   pub step : Underway a b (slot ∷ left) words → slot < length words → Underway a b left (set words slot (getD b slot 0))
   step u l =
       let s = sending u in
@@ -85,7 +80,7 @@ module _ {a b : List ℕ} {slot : ℕ} {left words : List ℕ} where
       go : (s : Sending a b slot left words) (k : ℕ) → k < configured → (x : Bool) → eqb k slot ≡ x → getD (set words slot (getD b slot 0)) k 0 ≡ stage a b (suc (s .turn)) k
       go s k h true e =
           rw (eqb-true k slot e)
-          (getD-set-same words slot (getD b slot 0) 0 l ∙ sym (past-due a b (suc (s .turn)) slot (omega (arith, due-now s))))
+          (getD-set-same words slot (getD b slot 0) 0 l ∙ sym (past-due a b (suc (s .turn)) slot (omega (arith, ap (due a b) (s .slot-is), due-now a b (s .turn) (omega (arith, s .all)) (s .goes-on)))))
       go s k h false e =
           getD-set-other words slot k (getD b slot 0) 0 (eqb-false k slot e) ∙ s .now k h
           ∙ not-due a b (s .turn) k (λ d. eqb-false k slot e (sym (s .slot-is ∙ ap (λ (c : Call). c .slot) (due-call a b k (s .turn) h d))))
@@ -101,6 +96,10 @@ module _ {a b left words : List ℕ} where
   -- each of them is the first configuration's or the second's
   pub either : Underway a b left words → (k : ℕ) → k < configured → (getD words k 0 ≡ getD a k 0) ⊎ (getD words k 0 ≡ getD b k 0)
   either u k h = rw (u .now k h) (stage-in a b (λ x. (x ≡ getD a k 0) ⊎ (x ≡ getD b k 0)) (u .turn) k (inl refl) (inr refl))
+
+  -- made anew from these words, the list is what is left
+  pub again : Underway a b left words → sends words b ≡ left
+  again u = all-coming words b ∙ ap (λ (n : ℕ). coming words b n 0) (sym (u .all)) ∙ resumed a b words (u .turn) (u .now) (u .more) (u .turn) 0 (u .all) (omega arith) ∙ sym (u .rest)
 
 -- so the next write is accepted
 pub accepted : {a b left words : List ℕ} {slot : ℕ} → Valid a → Valid b → Underway a b (slot ∷ left) words → slot < length words → judged words slot (getD b slot 0) ≡ Good
