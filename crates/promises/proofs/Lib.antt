@@ -16,5 +16,6 @@ pub mod Serving
 pub mod Slots
 pub mod Spent
 pub mod Ticking
+pub mod Trap
 pub mod Underway
 pub mod Writing

@@ -6,3 +6,4 @@ pub mod Restoring
 pub mod Running
 pub mod Serving
 pub mod Ticking
+pub mod Trap
