@@ -7,6 +7,7 @@ use Rattle.promises.proofs.Images as Images
 use Rattle.promises.proofs.Restoring as Restoring
 use Rattle.promises.proofs.Running as Running
 use Rattle.promises.proofs.Ticking as Ticking
+use Rattle.promises.proofs.Trap as Trap
 use Rattle.controller.proofs.Seen as Seen
 use Rattle.controller.proofs.Turns as Turns
 use Rattle.promises.proofs.Serving as Serving
@@ -50,10 +51,14 @@ pub demand-3 : Demand-3
 demand-3 =
     record {
       always-fits = Restoring.always-fits;
+      count-is-difference = Restoring.count-is-difference;
+      equal-images = Restoring.equal-images;
       each-accepted = Restoring.each-accepted;
       arrives = Restoring.arrives;
-      cut-anywhere = Restoring.cut-anywhere;
-      count-is-difference = Restoring.count-is-difference;
       shortest = Restoring.shortest;
+      cut-anywhere = Restoring.cut-anywhere;
+      taken-up-again = Restoring.taken-up-again;
       turned-away-exactly = Restoring.turned-away-exactly;
+      own-image = Restoring.own-image;
+      out-of-the-trap = Trap.out-of-the-trap;
     }

@@ -1,12 +1,11 @@
 -- Which complete images are read as good: the proper ones; the others are refused for a value or a chain. A unit's own image is proper.
 -- Assumes nothing.
-use mathlib.Core.Path.{_≡_, refl, ap, sym, subst, _∙_}
+use mathlib.Core.Path.{_≡_, refl, sym, ap, _∙_}
 use mathlib.Core.Bool.{Bool, true, false, not}
 use mathlib.Core.List.{List, [], _∷_, _++_}
 use mathlib.Core.Logic.{_⊎_, inl, inr}
 use Prim.Native.Nat.{ℕ, suc, _+_, _<_, _≤_}
 use native.Mathlib.Omega.{arith}
-use lib.Dec.{eqb, ltb}
 use lib.ListN.{length, getD, take, drop, length-drop, take-append-drop}
 use borrow.Author.Tests.{le-ltb, eq-eqb}
 use Rattle.octets.specs.Little.{little, bytes, Bytes}
@@ -20,7 +19,7 @@ use Rattle.entries.specs.Judge.{in-range, is-good}
 use Rattle.entries.specs.Valid.{Valid}
 use Rattle.records.specs.Layout.{Listed, listed, size, entry, extent, record-of, records, image-of}
 use Rattle.records.specs.Walk.{size-in, index-in, sub-in, data-in, fits, values, valued, sized, decoded, and-then, behind, walked, taken-in}
-use Rattle.records.specs.declared.types.Refusal.the-variants.{EndedEarly, WrongCount, OutOfRange, OutOfOrder, LeftOver}
+use Rattle.records.specs.declared.types.Refusal.the-variants.{OutOfRange, OutOfOrder}
 use Rattle.records.specs.declared.types.Walked.{Walked}
 use Rattle.records.specs.declared.types.Walked.the-variants as walk
 use Rattle.records.specs.declared.types.Outcome.the-variants.{Good, Refused}
@@ -166,9 +165,9 @@ records-bytes (e ∷ es) [] = bytes-join (record-of e 0) (records es []) (record
 records-bytes (e ∷ es) (w ∷ words) = bytes-join (record-of e w) (records es words) (record-bytes e w) (records-bytes es words)
 
 -- is proper, and the unit holds it
-pub own-image : (unit : List ℕ) → length unit ≡ unit-size → Valid unit → Proper (image-of unit) × Holds unit (configuration-in (image-of unit))
+pub saved-held : (unit : List ℕ) → length unit ≡ unit-size → Valid unit → Proper (image-of unit) × Holds unit (configuration-in (image-of unit))
 unfolding image-of
-own-image unit long v =
+saved-held unit long v =
     let all : configured ≤ length unit = omega (arith, sizes) in (
       proper (bytes-join (bytes 4 configured) (records listed unit) (are-bytes 4 configured) (records-bytes listed unit)) (image-accepted unit v all),
       record { long = long; front = sym (configuration-back unit v all) },

@@ -28,13 +28,13 @@ use Rattle.image.specs.Reading.{configuration-in}
 use Rattle.sending.specs.Sending.{slots-from, stretch, order, picked, differs, grows, rises, falls, sent, sends}
 use Rattle.lists.specs.Changes.{changes, list-of}
 use Rattle.lists.specs.Listing.{left-by}
-use Rattle.gateway.specs.Restored.{told, outcome, Restored}
+use Rattle.gateway.specs.Restored.{told, outcome}
 use Rattle.promises.specs.Delivery.{write-command, frame-of, frames-from, frames-in}
-use Rattle.promises.specs.Restoring.{Proper, Holds, Restoring}
+use Rattle.promises.specs.Restoring.{Proper, Called, Holds, Restoring}
 use Rattle.promises.specs.Running.{Event, frame, happens, run, Made-of-bytes, Sound}
 use Rattle.promises.specs.Trap.{moved, point, downward, the-list, Out-of-the-trap}
 use Rattle.promises.proofs.Listed.{number-is, buffer-is}
-use Rattle.promises.proofs.Proper.{good, own-image}
+use Rattle.promises.proofs.Proper.{saved-held}
 use Rattle.promises.proofs.Running.{size-at-start, always-sound}
 
 -- ---- the wanted unit is what the writes make of a fresh one, so it may stand
@@ -68,10 +68,10 @@ sound = subst Sound written (always-sound (map write (downward point)) all-bytes
 -- ---- both images are proper
 
 first-unit : Proper (image-of at-start) × Holds at-start (configuration-in (image-of at-start))
-first-unit = own-image at-start size-at-start valid-at-start
+first-unit = saved-held at-start size-at-start valid-at-start
 
 second-unit : Proper (image-of moved) × Holds moved (configuration-in (image-of moved))
-second-unit = own-image moved (sound .size) (sound .valid)
+second-unit = saved-held moved (sound .size) (sound .valid)
 
 -- ---- the list
 
@@ -107,9 +107,8 @@ out-of-the-trap = (upward-refused, instance, frames-computed)
     instance buffer room =
         let a = image-of at-start in
         let b = image-of moved in
-        let g = good (first-unit .0) in
-        let h = good (second-unit .0) in
-        let made : Restored a b buffer (left-by (outcome a b buffer) (list-of a b) buffer) (told (outcome a b buffer)) = record { answered = refl; bytes = refl } in
-        let number = number-is g h room made ∙ ap (λ (l : List ℕ). pos (length l)) list-is in
-        let left = buffer-is g h room made ∙ ap (λ (l : List ℕ). l ++ drop (length l) buffer) list-is in
+        let made : Called a b buffer (left-by (outcome a b buffer) (list-of a b) buffer) (told (outcome a b buffer))
+        = record { first = first-unit .0; second = second-unit .0; room = room; restored = record { answered = refl; bytes = refl } } in
+        let number = number-is made ∙ ap (λ (l : List ℕ). pos (length l)) list-is in
+        let left = buffer-is made ∙ ap (λ (l : List ℕ). l ++ drop (length l) buffer) list-is in
         record { called = record { first = first-unit .0; second = second-unit .0; room = room; restored = record { answered = sym number; bytes = sym left } }; holds = first-unit .1 }

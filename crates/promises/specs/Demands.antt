@@ -3,9 +3,10 @@
 use Rattle.output.specs.Commanded.{Some-rule, Rules-1-to-6, Rule-7}
 use Rattle.promises.specs.Bench.{On-the-bench}
 use Rattle.promises.specs.Images.{Saved-reads-back, Same-bytes-again, Accepts-exactly, One-configuration-each, Refusals-write-nothing, Looked-up-as-it-stands}
-use Rattle.promises.specs.Restoring.{Always-fits, Each-accepted, Arrives, Cut-anywhere, Count-is-difference, Shortest, Turned-away-exactly, Refused-lists-write-nothing, One-list}
+use Rattle.promises.specs.Restoring.{Always-fits, Count-is-difference, Equal-images, Each-accepted, Arrives, Shortest, Cut-anywhere, Taken-up-again, Turned-away-exactly, Own-image, Refused-lists-write-nothing, One-list}
 use Rattle.promises.specs.Running.{Only-the-fold, Always-sound}
 use Rattle.promises.specs.Ticking.{No-nan, Every-tick}
+use Rattle.promises.specs.Trap.{Out-of-the-trap}
 use Rattle.controller.specs.Turns.{Seen-by, Sourced-by}
 use Rattle.promises.specs.Serving.{Untouched, First-eight-only, That-one-entry, Determined, Reads-back, Stays-valid, Decided-by-configuration}
 
@@ -60,19 +61,28 @@ pub record Demand-2 : Type 0 where
   -- "The bytes of one record's value are handed on as they stand in the image"
   pub looked-up-as-it-stands : Looked-up-as-it-stands
 
--- "For any two complete images in range and in order, and a buffer of 5,207 bytes"
+-- "3. Take any two complete images whose values are in range and whose chains are ordered, and a buffer of 5,207 bytes."
 pub record Demand-3 : Type 0 where
-  -- a list is made, and fits
+  -- "The list we make from them": one is made, and fits
   pub always-fits : Always-fits
-  -- it "is accepted record by record", "while no other configuration write comes between"
-  pub each-accepted : Each-accepted
-  -- "and leaves the second"
-  pub arrives : Arrives
-  -- "Cut after any record, every entry holds its first or second value"
-  pub cut-anywhere : Cut-anywhere
   -- it has one record for each entry that differs, and its count is their number
   pub count-is-difference : Count-is-difference
-  -- "It is as short as any such list can be"
+  -- "two equal images give four zero bytes"
+  pub equal-images : Equal-images
+  -- "sent to a controller that holds the first while no other configuration write comes between, is accepted record by record"
+  pub each-accepted : Each-accepted
+  -- "and leaves the second."
+  pub arrives : Arrives
+  -- "It is as short as any such list can be."
   pub shortest : Shortest
-  -- a wanted image is "turned away exactly when no list of accepted writes could reach it"
+  -- "Cut after any record, every entry holds its first or its second value."
+  pub cut-anywhere : Cut-anywhere
+  -- and what was not sent is all that a list made anew would send
+  pub taken-up-again : Taken-up-again
+  -- "Given such a first image and buffer, a second one with the right count, all 611 records in place at their sizes and nothing after them
+  -- is turned away exactly when no list of accepted writes could reach it."
   pub turned-away-exactly : Turned-away-exactly
+  -- there are such images and controllers: every unit that runs, with the image it would save
+  pub own-image : Own-image
+  -- "to move 0, 100, .. to 500, 600, .. the first write (500) is refused": this move, and its list to the byte
+  pub out-of-the-trap : Out-of-the-trap

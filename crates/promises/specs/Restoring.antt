@@ -11,19 +11,20 @@ use Rattle.octets.specs.Little.{little, Bytes}
 use Rattle.numbers.specs.Order.{below}
 use Rattle.dictionary.specs.Names.{configured}
 use Rattle.dictionary.specs.Unit.{unit-size}
+use Rattle.roles.specs.Values.{at-start}
+use Rattle.entries.specs.Valid.{Valid}
 use Rattle.sdo.specs.Answers.{size-of, answer}
 use Rattle.sdo.specs.Frames.{name-in, reply-to}
 use Rattle.sdo.specs.declared.types.Answer.{Answer}
 use Rattle.sdo.specs.declared.types.Answer.the-variants.{Silent, Aborted, Value, Written}
+use Rattle.sdo.specs.Served.{after}
 use Rattle.records.specs.Layout.{Listed, listed, size, image-of}
 use Rattle.records.specs.Walk.{index-in, sub-in, size-in}
-use Rattle.entries.specs.Valid.{Valid}
 use Rattle.image.specs.Reading.{configuration-in}
-use Rattle.sdo.specs.Served.{after}
 use Rattle.sending.specs.Sending.{apart}
 use Rattle.gateway.specs.Restored.{Restored}
 use Rattle.promises.specs.Delivery.{frames-in}
-use Rattle.promises.specs.Running.{Event, frame, tick, happens, run}
+use Rattle.promises.specs.Running.{Event, frame, tick, happens, run, Made-of-bytes}
 
 -- ---- "Take any two complete images whose values are in range and whose chains are ordered, and a buffer of 5,207 bytes"
 
@@ -39,7 +40,7 @@ pub record Complete (image : List ℕ) : Type 0 where
   pub count : little (take 4 image) ≡ configured
   pub places : In-place listed (drop 4 image)
 
--- and "whose values are in range", a REAL32 finite, "and whose chains are ordered"
+-- "complete", and "whose values are in range", a REAL32 finite, "and whose chains are ordered"
 pub record Proper (image : List ℕ) : Type 0 where
   pub complete : Complete image
   pub valid : Valid (configuration-in image)
@@ -79,11 +80,22 @@ pub data Sent : List (List ℕ) → List ℕ → List ℕ → Type 0 where
 
 -- ---- what is promised
 
--- the call succeeds: in the yard, a list is made whatever the two images are; and 5,207 bytes are always enough
+-- "The list we make from them": one is made, whatever the two images are; 5,207 bytes are always enough, and those behind it stay
 abbrev pub Always-fits : Type 0
 Always-fits =
     (current wanted buffer buffer′ : List ℕ) (r : ℤ) → Called current wanted buffer buffer′ r
     → (r ≡ pos (length (list-left r buffer′))) × (length (list-left r buffer′) ≤ 5207) × (drop (length (list-left r buffer′)) buffer′ ≡ drop (length (list-left r buffer′)) buffer)
+
+-- the count that the list begins with, and the records that it has, are the entries that differ
+abbrev pub Count-is-difference : Type 0
+Count-is-difference =
+    (current wanted buffer buffer′ : List ℕ) (r : ℤ) → Called current wanted buffer buffer′ r
+    → (little (take 4 buffer′) ≡ apart (configuration-in current) (configuration-in wanted))
+    × (length (frames-in (list-left r buffer′)) ≡ apart (configuration-in current) (configuration-in wanted))
+
+-- "two equal images give four zero bytes"
+abbrev pub Equal-images : Type 0
+Equal-images = (image buffer buffer′ : List ℕ) (r : ℤ) → Called image image buffer buffer′ r → (r ≡ pos 4) × (list-left r buffer′ ≡ 0 ∷ 0 ∷ 0 ∷ 0 ∷ [])
 
 -- "is accepted record by record": wherever the fitter is in the list, the next frame is answered 60h, its name, four zeros
 abbrev pub Each-accepted : Type 0
@@ -97,33 +109,6 @@ abbrev pub Arrives : Type 0
 Arrives =
     (current wanted buffer buffer′ : List ℕ) (r : ℤ) (unit : List ℕ) → Restoring current wanted buffer buffer′ r unit
     → (unit′ : List ℕ) → Sent (frames-in (list-left r buffer′)) unit unit′ → Holds unit′ (configuration-in wanted) × (image-of unit′ ≡ wanted)
-
--- "Cut after any record, every entry holds its first or second value": a pulled plug leaves nothing that was in neither image
-abbrev pub Cut-anywhere : Type 0
-Cut-anywhere =
-    (current wanted buffer buffer′ : List ℕ) (r : ℤ) (unit : List ℕ) → Restoring current wanted buffer buffer′ r unit
-    → (sent rest : List (List ℕ)) (unit′ : List ℕ) → frames-in (list-left r buffer′) ≡ sent ++ rest → Sent sent unit unit′
-    → (slot : ℕ) → slot < configured
-    → (getD unit′ slot 0 ≡ getD (configuration-in current) slot 0) ⊎ (getD unit′ slot 0 ≡ getD (configuration-in wanted) slot 0)
-
--- so a cut list can be taken up again at no cost: made anew, from the image that the unit would now save, it is what was not sent, frame for frame
-abbrev pub Taken-up-again : Type 0
-Taken-up-again =
-    (current wanted buffer buffer′ : List ℕ) (r : ℤ) (unit : List ℕ) → Restoring current wanted buffer buffer′ r unit
-    → (sent rest : List (List ℕ)) (unit′ : List ℕ) → frames-in (list-left r buffer′) ≡ sent ++ rest → Sent sent unit unit′
-    → (again again′ : List ℕ) (s : ℤ) → 5207 ≤ length again → Restored (image-of unit′) wanted again again′ s
-    → Restoring (image-of unit′) wanted again again′ s unit′ × (frames-in (list-left s again′) ≡ rest)
-
--- the count that the list begins with, and the records that it has, are the entries that differ
-abbrev pub Count-is-difference : Type 0
-Count-is-difference =
-    (current wanted buffer buffer′ : List ℕ) (r : ℤ) → Called current wanted buffer buffer′ r
-    → (little (take 4 buffer′) ≡ apart (configuration-in current) (configuration-in wanted))
-    × (length (frames-in (list-left r buffer′)) ≡ apart (configuration-in current) (configuration-in wanted))
-
--- "two equal images give four zero bytes"
-abbrev pub Equal-images : Type 0
-Equal-images = (image buffer buffer′ : List ℕ) (r : ℤ) → Called image image buffer buffer′ r → (r ≡ pos 4) × (list-left r buffer′ ≡ 0 ∷ 0 ∷ 0 ∷ 0 ∷ [])
 
 -- an accepted write counts as one record
 abbrev pub one-record : Answer → ℕ
@@ -154,6 +139,26 @@ Shortest =
     (current wanted buffer buffer′ : List ℕ) (r : ℤ) (unit : List ℕ) → Restoring current wanted buffer buffer′ r unit
     → (events : List Event) → take configured (run events unit) ≡ configuration-in wanted
     → (length (frames-in (list-left r buffer′)) ≤ writes one-record events unit) × (length (list-left r buffer′) ≤ 4 + writes record-bytes events unit)
+
+-- "Cut after any record, every entry holds its first or its second value": a pulled plug leaves nothing that was in neither image
+abbrev pub Cut-anywhere : Type 0
+Cut-anywhere =
+    (current wanted buffer buffer′ : List ℕ) (r : ℤ) (unit : List ℕ) → Restoring current wanted buffer buffer′ r unit
+    → (sent rest : List (List ℕ)) (unit′ : List ℕ) → frames-in (list-left r buffer′) ≡ sent ++ rest → Sent sent unit unit′
+    → (slot : ℕ) → slot < configured
+    → (getD unit′ slot 0 ≡ getD (configuration-in current) slot 0) ⊎ (getD unit′ slot 0 ≡ getD (configuration-in wanted) slot 0)
+
+-- so a cut list is taken up again at no cost: made anew, from the image that the unit would now save, it is what was not sent, frame for frame
+abbrev pub Taken-up-again : Type 0
+Taken-up-again =
+    (current wanted buffer buffer′ : List ℕ) (r : ℤ) (unit : List ℕ) → Restoring current wanted buffer buffer′ r unit
+    → (sent rest : List (List ℕ)) (unit′ : List ℕ) → frames-in (list-left r buffer′) ≡ sent ++ rest → Sent sent unit unit′
+    → (again again′ : List ℕ) (s : ℤ) → 5207 ≤ length again → Restored (image-of unit′) wanted again again′ s
+    → Restoring (image-of unit′) wanted again again′ s unit′ × (frames-in (list-left s again′) ≡ rest)
+
+-- the yard has what this takes for given: the image that a unit would save is such an image, and the unit holds it; from the start, after any list of frames and ticks
+abbrev pub Own-image : Type 0
+Own-image = (events : List Event) → Made-of-bytes events → let unit = run events at-start in Proper (image-of unit) × Holds unit (configuration-in (image-of unit))
 
 -- ---- what is turned away
 
