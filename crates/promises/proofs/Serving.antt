@@ -28,9 +28,9 @@ use Rattle.promises.proofs.ReadBack.{reply-back}
 use Rattle.promises.proofs.Writing.{still-valid}
 
 pub untouched : Untouched
-unfolding after filled reply-to
-untouched words frame reply words′ reply′ r s =
-    (λ e. (s .state ∙ ap (after words) e, s .bytes ∙ ap (filled reply frame) e), λ a e. s .state ∙ ap (after words) e)
+unfolding after filled reply-to reply name-in bytes
+untouched words frame buffer words′ buffer′ r s =
+    (λ e. (s .state ∙ ap (after words) e, s .bytes ∙ ap (filled buffer frame) e), λ a e. (s .state ∙ ap (after words) e, ap (take 8) (s .bytes ∙ ap (filled buffer frame) e)))
 
 pub first-eight-only : First-eight-only
 unfolding filled reply-to reply name-in bytes

@@ -4,27 +4,29 @@ use Prim.Native.Nat.{ℕ, _-_, _<_, _≤_}
 use mathlib.Core.Path.{_≡_}
 use mathlib.Core.List.{List, _∷_, _++_}
 use lib.ListN.{length, getD, take, drop, replicate}
-use Rattle.octets.specs.Little.{Bytes}
+use Rattle.octets.specs.Little.{bytes, Bytes}
 use Rattle.dictionary.specs.Names.{configured, words, find}
 use Rattle.dictionary.specs.Unit.{unit-size}
 use Rattle.dictionary.specs.declared.types.Found.the-variants.{At}
 use Rattle.entries.specs.Valid.{Valid}
 use Rattle.roles.specs.Values.{at-start}
 use Rattle.sdo.specs.Answers.{answer}
-use Rattle.sdo.specs.Frames.{index-in, sub-in, name-in, command-of, read-command, reply-to}
+use Rattle.sdo.specs.Frames.{index-in, sub-in, name-in, code, command-of, read-command, reply-to}
 use Rattle.sdo.specs.declared.types.Abort.{Abort}
 use Rattle.sdo.specs.declared.types.Answer.{Answer}
 use Rattle.sdo.specs.declared.types.Answer.the-variants.{Silent, Aborted, Written}
 use Rattle.sdo.specs.declared.types.Command.the-variants.{Write}
 use Rattle.sdo.specs.Served.{Served, after}
 
--- "An abort changes no state"; where there is no reply the buffer is untouched too
+-- "after a refusal the controller and the lent buffers hold what they held before, save for an abort frame where a reply is due":
+-- "no reply, buffer untouched"; an abort changes no state, and the buffer begins with "80h, name as received, code"
 abbrev pub Untouched : Type 0
 Untouched =
     (unit frame reply unit′ reply′ : List ℕ) (r : Answer) → Served unit frame reply unit′ reply′ r
-    → (r ≡ Silent → (unit′ ≡ unit) × (reply′ ≡ reply)) × ((a : Abort) → r ≡ Aborted a → unit′ ≡ unit)
+    → (r ≡ Silent → (unit′ ≡ unit) × (reply′ ≡ reply))
+    × ((a : Abort) → r ≡ Aborted a → (unit′ ≡ unit) × (take 8 reply′ ≡ 0x80 ∷ name-in frame ++ bytes 4 (code a)))
 
--- "A reply fills the buffer's first 8 bytes only", an abort's too
+-- "A reply fills the buffer's first 8 bytes only", an abort's too: every byte behind them is as it was
 abbrev pub First-eight-only : Type 0
 First-eight-only =
     (unit frame reply unit′ reply′ : List ℕ) (r : Answer) → Served unit frame reply unit′ reply′ r → (length reply′ ≡ length reply) × (drop 8 reply′ ≡ drop 8 reply)
