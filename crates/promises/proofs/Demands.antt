@@ -4,6 +4,7 @@ use Rattle.output.proofs.OutputLaws as OutputLaws
 use Rattle.promises.specs.Demands.{Demand-1, Demand-2, Demand-3}
 use Rattle.promises.proofs.Bench as Bench
 use Rattle.promises.proofs.Images as Images
+use Rattle.promises.proofs.Refusals as Refusals
 use Rattle.promises.proofs.Restoring as Restoring
 use Rattle.promises.proofs.Running as Running
 use Rattle.promises.proofs.Ticking as Ticking
@@ -18,10 +19,15 @@ demand-1 =
       one-answer = Serving.determined;
       one-list = Restoring.one-list;
       images-told-apart = Images.accepts-exactly;
+      images-meet-theirs = Refusals.images-meet-theirs;
+      told-to-C = Refusals.told-to-C;
+      one-to-seven = Refusals.one-to-seven;
+      number-tells-which = Refusals.number-tells-which;
       frames-refused = Serving.untouched;
       first-eight-only = Serving.first-eight-only;
       images-refused = Images.refusals-write-nothing;
       lists-refused = Restoring.refused-lists-write-nothing;
+      same-for-C = Refusals.same-for-C;
     }
 
 pub demand-2 : Demand-2

@@ -10,6 +10,7 @@ pub mod Proper
 pub mod Reached
 pub mod ReadBack
 pub mod RecordFrames
+pub mod Refusals
 pub mod Restoring
 pub mod Running
 pub mod Serving

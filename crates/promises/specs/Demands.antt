@@ -3,6 +3,7 @@
 use Rattle.output.specs.Commanded.{Some-rule, Rules-1-to-6, Rule-7}
 use Rattle.promises.specs.Bench.{On-the-bench}
 use Rattle.promises.specs.Images.{Saved-reads-back, Same-bytes-again, Accepts-exactly, One-configuration-each, Refusals-write-nothing, Looked-up-as-it-stands}
+use Rattle.promises.specs.Refusals.{Images-meet-theirs, One-to-seven, Told-to-C, Same-for-C, Number-tells-which}
 use Rattle.promises.specs.Restoring.{Always-fits, Count-is-difference, Equal-images, Each-accepted, Arrives, Shortest, Cut-anywhere, Taken-up-again, Turned-away-exactly, Own-image, Refused-lists-write-nothing, One-list}
 use Rattle.promises.specs.Running.{Only-the-fold, Always-sound}
 use Rattle.promises.specs.Ticking.{No-nan, Every-tick}
@@ -18,6 +19,13 @@ pub record Demand-1 : Type 0 where
   pub one-list : One-list
   -- an image is refused exactly where it is not that of a configuration in range and in order
   pub images-told-apart : Accepts-exactly
+  -- bytes meet the first of the refusals that are listed for an image, by the paper's number
+  pub images-meet-theirs : Images-meet-theirs
+  -- C is told that number
+  pub told-to-C : Told-to-C
+  -- "-n for the current image, -(10+n) for the wanted, then -8 for room": it tells which of them it was, since 8 is no image's
+  pub one-to-seven : One-to-seven
+  pub number-tells-which : Number-tells-which
   -- "after a refusal the controller and the lent buffers hold what they held before, save for an abort frame where a reply is due": of a frame
   pub frames-refused : Untouched
   pub first-eight-only : First-eight-only
@@ -25,6 +33,8 @@ pub record Demand-1 : Type 0 where
   pub images-refused : Refusals-write-nothing
   -- of a list
   pub lists-refused : Refused-lists-write-nothing
+  -- and so of what C calls
+  pub same-for-C : Same-for-C
 
 pub record Demand-2 : Type 0 where
   -- "Frames answer as DS-301 expedited transfer says": what is written is read back, by its name

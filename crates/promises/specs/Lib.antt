@@ -2,6 +2,7 @@ pub mod Bench
 pub mod Delivery
 pub mod Demands
 pub mod Images
+pub mod Refusals
 pub mod Restoring
 pub mod Running
 pub mod Serving
