@@ -86,7 +86,7 @@ module _ (samples : List ℤ) (unit : List ℕ) where
 -- ---- 1001h
 
 -- the flags are as they were where their words are
-same-flags : {u v : List ℕ} → ((k : ℕ) → Kept (flags-at + k) u v) → anyFlagged v ≡ anyFlagged u
+pub same-flags : {u v : List ℕ} → ((k : ℕ) → Kept (flags-at + k) u v) → anyFlagged v ≡ anyFlagged u
 unfolding anyFlagged memory
 same-flags kept = rw (kept 0 .word, kept 1 .word, kept 2 .word, kept 3 .word)
 

@@ -108,12 +108,12 @@ arrives current wanted buffer buffer′ r unit h unit′ s =
 
 pub shortest : Shortest
 unfolding changes
-shortest current wanted buffer buffer′ r unit h events e =
+shortest current wanted buffer buffer′ r unit h events only e =
     let c = h .called in
     let a = configuration-in current in
     let b = configuration-in wanted in
-    let records = paid (λ s. 1) one-record (λ slot word. omega arith) a b unit events (h .holds .front) e in
-    let all = paid (λ s. 7 + size-of s) record-bytes (λ slot word. omega arith) a b unit events (h .holds .front) e in
+    let records = paid (λ s. 1) one-record (λ slot word. omega arith) a b unit events only (h .holds .front) e in
+    let all = paid (λ s. 7 + size-of s) record-bytes (λ slot word. omega arith) a b unit events only (h .holds .front) e in
     (omega (arith, frames-many c, many c, total-length (sends a b)), omega (arith, ap length (left-is c), list-long current wanted (good (c .second))))
 
 pub cut-anywhere : Cut-anywhere

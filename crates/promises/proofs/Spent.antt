@@ -10,11 +10,13 @@ use Rattle.sdo.specs.Answers.{answer}
 use Rattle.sdo.specs.declared.types.Answer.{Answer}
 use Rattle.sdo.specs.declared.types.Answer.the-variants.{Silent, Aborted, Value, Written}
 use Rattle.sdo.specs.Served.{after}
+use Rattle.controller.specs.Tick.{ticked}
 use Rattle.sending.specs.Sending.{sends, total}
 use Rattle.sending.proofs.Weights.{weight, sends-weight, weight-none, weight-same, weight-step}
-use Rattle.promises.specs.Running.{Event, frame, tick, happens, run}
-use Rattle.promises.specs.Restoring.{written-by, writes}
-use Rattle.promises.proofs.Underway.{kept, front-is}
+use Rattle.promises.specs.Running.{Event, frame, tick, load, happens, run}
+use Rattle.promises.specs.Restoring.{written-by, writes, Frames-and-ticks}
+use Rattle.promises.proofs.Running.{kept-by-tick}
+use Rattle.promises.proofs.Underway.{front-is}
 
 -- an accepted write is worth at least what its slot weighs
 module _ (f : ℕ → ℕ) (worth : Answer → ℕ) (enough : (slot word : ℕ) → f slot ≤ worth (Written slot word)) where
@@ -25,25 +27,26 @@ module _ (f : ℕ → ℕ) (worth : Answer → ℕ) (enough : (slot word : ℕ) 
   by-answer unit wanted (Value w n) = omega arith
   by-answer unit wanted (Written slot word) = omega (arith, enough slot word, weight-step f unit wanted slot word)
 
-  by-event : (e : Event) (unit wanted : List ℕ) → weight f unit wanted ≤ written-by worth e unit + weight f (happens e unit) wanted
-  unfolding happens
-  by-event (frame g room) unit wanted = by-answer unit wanted (answer unit g room)
-  by-event (tick samples) unit wanted =
-      let k = kept (tick samples) unit tt in
-      omega (arith, weight-same f (happens (tick samples) unit) wanted unit wanted (k .same) (λ n h. refl))
-
-  spent : (events : List Event) (unit wanted : List ℕ) → weight f unit wanted ≤ writes worth events unit + weight f (run events unit) wanted
-  unfolding writes run
-  spent [] unit wanted = omega arith
-  spent (e ∷ es) unit wanted = omega (arith, by-event e unit wanted, spent es (happens e unit) wanted)
+  spent : (events : List Event) → Frames-and-ticks events → (unit wanted : List ℕ) → weight f unit wanted ≤ writes worth events unit + weight f (run events unit) wanted
+  unfolding writes run happens
+  spent [] only unit wanted = omega arith
+  spent (frame g room ∷ es) only unit wanted =
+      omega (arith, by-answer unit wanted (answer unit g room), spent es only (happens (frame g room) unit) wanted)
+  spent (tick samples ∷ es) only unit wanted =
+      omega (
+        arith,
+        weight-same f (ticked samples unit) wanted unit wanted (kept-by-tick samples unit) (λ k h. refl),
+        spent es only (happens (tick samples) unit) wanted,
+      )
+  spent (load image ∷ es) only unit wanted = absurd only
 
   -- so what takes a unit from one configuration to another is worth at least what is sent between them
-  pub paid : (a b unit : List ℕ) (events : List Event) → take configured unit ≡ a → take configured (run events unit) ≡ b → total f (sends a b) ≤ writes worth events unit
-  paid a b unit events first last =
+  pub paid : (a b unit : List ℕ) (events : List Event) → Frames-and-ticks events → take configured unit ≡ a → take configured (run events unit) ≡ b → total f (sends a b) ≤ writes worth events unit
+  paid a b unit events only first last =
       omega (
         arith,
         sends-weight f a b,
         weight-same f unit b a b (front-is unit first) (λ k h. refl),
-        spent events unit b,
+        spent events only unit b,
         weight-none f (run events unit) b (front-is (run events unit) last),
       )

@@ -10,12 +10,15 @@ use Rattle.dictionary.specs.Names.{configured}
 use Rattle.dictionary.specs.Unit.{unit-size}
 use Rattle.entries.proofs.Configuration.{can-be-written, in-unit}
 use Rattle.dictionary.proofs.naming.NameLaws as Names
+use Rattle.entries.specs.Valid.{Valid}
 use Rattle.sdo.specs.Answers.{stored, answer}
 use Rattle.sdo.specs.declared.types.Answer.{Answer}
 use Rattle.sdo.specs.declared.types.Answer.the-variants.{Silent, Aborted, Value, Written}
 use Rattle.sdo.specs.Served.{after}
 use Rattle.records.specs.Layout.{listed}
-use Rattle.image.specs.Reading.{configuration-in}
+use Rattle.records.specs.declared.types.Outcome.the-variants.{Good}
+use Rattle.image.specs.Loaded.{loaded}
+use Rattle.image.specs.Reading.{reading, configuration-in}
 use Rattle.image.proofs.reading.PlaceLaws as Places
 use Rattle.image.proofs.LoadLaws.{values-length}
 use Rattle.sending.proofs.Underway as Sending
@@ -23,10 +26,10 @@ use Rattle.lists.specs.Changes.{changes, list-of}
 use Rattle.promises.specs.Delivery.{frames-in}
 use Rattle.promises.proofs.ListFrames.{frame-at, answered, list-frames}
 use Rattle.controller.proofs.TickLaws as Tick
-use Rattle.promises.specs.Running.{Event, frame, tick, happens}
+use Rattle.promises.specs.Running.{Event, frame, tick, load, happens}
 use Rattle.promises.specs.Restoring.{Proper, Calm, Sent, Holds}
 use Rattle.promises.proofs.Proper.{good}
-use Rattle.promises.proofs.Running.{sizes}
+use Rattle.promises.proofs.Running.{sizes, all-words, kept-by-tick, kept-by-load}
 
 -- ---- a calm event keeps the configuration's words
 
@@ -43,19 +46,19 @@ by-answer unit (Written slot word) calm =
     let far = calm slot word refl in
     record { long = length-set unit slot word; same = λ k h. getD-set-other unit slot k word 0 (λ e. omega arith) }
 
-pub kept : (e : Event) (unit : List ℕ) → Calm e unit → Kept unit (happens e unit)
-unfolding happens
-kept (frame f room) unit calm = by-answer unit (answer unit f room) calm
-kept (tick samples) unit calm =
-    record { long = Tick.length-kept samples unit; same = λ k h. Tick.words-kept samples unit k (Tick.Unpublished.before (can-be-written k h)) }
-
 -- words that stand at the front of a unit, one by one
 pub front-is : (unit : List ℕ) {words : List ℕ} → take configured unit ≡ words → (k : ℕ) → k < configured → getD unit k 0 ≡ getD words k 0
 front-is unit e k l = sym (getD-take configured unit k 0 l) ∙ ap (λ (w : List ℕ). getD w k 0) e
 
-pub all-words : (image : List ℕ) → length (configuration-in image) ≡ configured
-unfolding configuration-in
-all-words image = values-length listed (drop 4 image) ∙ omega (arith, Places.counted, Names.counted .0)
+kept : (e : Event) (unit : List ℕ) → length unit ≡ unit-size → Calm e unit → Kept unit (happens e unit)
+unfolding happens
+kept (frame f room) unit long calm = by-answer unit (answer unit f room) calm
+kept (tick samples) unit long calm = record { long = Tick.length-kept samples unit; same = kept-by-tick samples unit }
+kept (load image) unit long calm =
+    record {
+      long = kept-by-load image unit (omega (arith, long, sizes)) (reading image) configured (omega arith) .size;
+      same = λ k h. front-is (loaded image unit (reading image)) calm k h ∙ getD-take configured unit k 0 h;
+    }
 
 -- ---- between two configurations that may stand
 
@@ -121,6 +124,6 @@ module _ (current wanted : List ℕ) where
     unfolding happens after
     further Sent.nothing g = g
     further (Sent.meanwhile {unit = unit} e calm s) g =
-        let k = kept e unit calm in
+        let k = kept e unit (g .long) calm in
         further s (record { slots = g .slots; left = Sending.as-well (g .left) (k .same); as-frames = g .as-frames; long = k .long ∙ g .long })
     further (Sent.send room h s) g = let n = next g in further s (rw (n .answers room h) (n .then))

@@ -47,7 +47,7 @@ pub record Demand-2 : Type 0 where
   pub stays-valid : Stays-valid
   -- the bench's own replies and numbers
   pub on-the-bench : On-the-bench
-  -- "Inputs, math, tables, logic and outputs follow document 01 tick by tick, REAL32 to the bit": any frames and ticks leave what the definitions make of them
+  -- "Inputs, math, tables, logic and outputs follow document 01 tick by tick, REAL32 to the bit": any frames, ticks and loads leave what the definitions make of them
   pub only-the-fold : Only-the-fold
   -- and in that, from the start, ranges and chains hold and 1001h tells of the flags
   pub always-sound : Always-sound

@@ -18,7 +18,7 @@ use Rattle.image.specs.Written.{Written, image-size}
 use Rattle.image.specs.Loaded.{Loaded}
 use Rattle.promises.specs.Running.{Event, Made-of-bytes, run}
 
--- "An image written from a controller reads back as that configuration": from the start, after any list of frames and ticks
+-- "An image written from a controller reads back as that configuration": from the start, after any list of frames, ticks and images that are loaded
 abbrev pub Saved-reads-back : Type 0
 Saved-reads-back =
     (events : List Event) (buffer buffer′ other other′ : List ℕ) (w r : Outcome) → Made-of-bytes events

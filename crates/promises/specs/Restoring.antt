@@ -24,7 +24,7 @@ use Rattle.image.specs.Reading.{configuration-in}
 use Rattle.sending.specs.Sending.{apart}
 use Rattle.gateway.specs.Restored.{Restored}
 use Rattle.promises.specs.Delivery.{frames-in}
-use Rattle.promises.specs.Running.{Event, frame, tick, happens, run, Made-of-bytes}
+use Rattle.promises.specs.Running.{Event, frame, tick, load, happens, run, Made-of-bytes}
 
 -- ---- "Take any two complete images whose values are in range and whose chains are ordered, and a buffer of 5,207 bytes"
 
@@ -67,10 +67,11 @@ pub record Restoring (current wanted buffer buffer′ : List ℕ) (r : ℤ) (uni
   pub called : Called current wanted buffer buffer′ r
   pub holds : Holds unit (configuration-in current)
 
--- "while no other configuration write comes between": a tick, a read, a refused frame, a write to 2500h
+-- "while no other configuration write comes between": a tick, a read, a refused frame, a write to 2500h, a load that leaves every entry as it was
 abbrev pub Calm : Event → List ℕ → Type 0
 Calm (frame f room) unit = (slot word : ℕ) → answer unit f room ≡ Written slot word → configured ≤ slot
 Calm (tick samples) unit = Unit
+Calm (load image) unit = take configured (happens (load image) unit) ≡ take configured unit
 
 -- some frames, sent in their order to a unit, and what else happened before, between and after them
 pub data Sent : List (List ℕ) → List ℕ → List ℕ → Type 0 where
@@ -128,16 +129,24 @@ record-bytes (Written slot word) = 7 + size-of slot
 abbrev pub written-by : (Answer → ℕ) → Event → List ℕ → ℕ
 written-by worth (frame f room) unit = worth (answer unit f room)
 written-by worth (tick samples) unit = 0
+written-by worth (load image) unit = 0
 
 unfoldable pub writes : (Answer → ℕ) → List Event → List ℕ → ℕ
 writes worth [] unit = 0
 writes worth (e ∷ es) unit = written-by worth e unit + writes worth es (happens e unit)
 
+-- a list is frames: no image is loaded beside them
+abbrev pub Frames-and-ticks : List Event → Type 0
+Frames-and-ticks [] = Unit
+Frames-and-ticks (frame f room ∷ es) = Frames-and-ticks es
+Frames-and-ticks (tick samples ∷ es) = Frames-and-ticks es
+Frames-and-ticks (load image ∷ es) = ⊥
+
 -- "It is as short as any such list can be": whatever takes the unit from the first to the second has at least as many accepted writes, and their records as many bytes
 abbrev pub Shortest : Type 0
 Shortest =
     (current wanted buffer buffer′ : List ℕ) (r : ℤ) (unit : List ℕ) → Restoring current wanted buffer buffer′ r unit
-    → (events : List Event) → take configured (run events unit) ≡ configuration-in wanted
+    → (events : List Event) → Frames-and-ticks events → take configured (run events unit) ≡ configuration-in wanted
     → (length (frames-in (list-left r buffer′)) ≤ writes one-record events unit) × (length (list-left r buffer′) ≤ 4 + writes record-bytes events unit)
 
 -- "Cut after any record, every entry holds its first or its second value": a pulled plug leaves nothing that was in neither image

@@ -57,6 +57,6 @@ pub record Ticked (samples : List ℤ) (before after : List ℕ) : Type 0 where
 abbrev pub Each-tick : Type 0
 Each-tick = (samples : List ℤ) (unit : List ℕ) → length unit ≡ unit-size → Valid unit → Ticked samples unit (ticked samples unit)
 
--- from the start, after any list of frames and ticks
+-- from the start, after any list of frames, ticks and images that are loaded
 abbrev pub Every-tick : Type 0
 Every-tick = (events : List Event) → Made-of-bytes events → (samples : List ℤ) → let unit = run events at-start in Ticked samples unit (ticked samples unit)
