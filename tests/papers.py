@@ -5,8 +5,8 @@
     python3 papers.py --write    writes TRUST.md's tables anew, in place
 
 Looked at are README.md, docs/ and the README.md of tests/ and bench/: names in backticks, and in TRACE.md the words before
-them too. A file of definitions has to be believed if one is led to it, by what is cited, from a demand, from the statement on a
-session's pieces, or from a contract that stands at the edge: of a function that C calls, that a program uses, or that nothing
+them too. A file of definitions has to be believed if one is led to it, by what is cited, from a demand, from the statements on a
+session's pieces and on its program, or from a contract that stands at the edge: of a function that C calls, that a program uses, or that nothing
 else in the tree uses.
 """
 
@@ -62,7 +62,7 @@ def edge():
 
 def believed():
     """The files that have to be believed, and the types."""
-    waiting = [CRATES / file for file in ("promises/specs/Demands.antt", "session/specs/Pieces.antt")]
+    waiting = [CRATES / file for file in ("promises/specs/Demands.antt", "session/specs/Pieces.antt", "session/specs/Program.antt")]
     files, types = {*waiting}, set()
     waiting += sorted(edge())
     while waiting:

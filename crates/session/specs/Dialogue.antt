@@ -76,13 +76,15 @@ after k piece =
       held = min (length (c .unfinished)) 65;
     }
 
--- a byte of the piece is taken for each 64 bytes of room
+-- a byte of the piece is taken for each 64 bytes of room, which every answer fits
 unfoldable pub taken : List ℕ → List ℕ → List ℕ
 taken piece room = take (length room / 64) piece
 
-pub record Hears (k : Kept) (piece room : List ℕ) (k′ : Kept) (room′ : List ℕ) (printed : ℕ) : Type 0 where
+-- only what is taken is heard, and the caller is told how much that is
+pub record Hears (k : Kept) (piece room : List ℕ) (k′ : Kept) (room′ : List ℕ) (printed took : ℕ) : Type 0 where
   pub kept : k′ ≡ after k (taken piece room)
   pub print : Printed (prints k (taken piece room)) room room′ printed
+  pub count : took ≡ length (taken piece room)
 
 -- the end of the input
 unfoldable pub closed : Kept → Said

@@ -1,3 +1,4 @@
 pub mod Byte
 pub mod Dialogue
 pub mod Pieces
+pub mod Program

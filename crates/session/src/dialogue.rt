@@ -6,6 +6,7 @@ ghost use Prim.Native.Nat.{min};
 ghost use lib.ListN.{length};
 ghost use Rattle.printer.specs.Answering.{Answers};
 ghost use Rattle.session.specs.Dialogue.{Kept, Hears, taken, closed};
+use crate::dialogue::byte::Here;
 use crate::dialogue::byte::respond;
 use crate::dialogue::byte::take_byte;
 use dictionary::slots::Unit;
@@ -13,10 +14,11 @@ use dictionary::slots::Unit;
 // One byte more than a good line may have, so that a line that is longer can be told.
 pub const LINE: usize = 65;
 
-// How many bytes of the unfinished line are held, and with how many bytes of answers the room begins.
+// How many bytes of the unfinished line are held, with how many bytes of answers the room begins, and how many bytes of the piece were taken.
 pub struct Heard {
     pub held: usize,
     pub printed: usize,
+    pub taken: usize,
 }
 
 // No more bytes are held than there is room for.
@@ -40,7 +42,7 @@ fn share(piece: &[u8], room: &[u8]) -> usize
     most
 }
 
-// A piece of the input.
+// A piece of the input. What the room may not suffice for is not taken, and is told.
 pub fn hear(
     unit: &mut Unit,
     line: &mut [u8; LINE],
@@ -48,10 +50,10 @@ pub fn hear(
     piece: &[u8],
     room: &mut [u8],
 ) -> Heard
-    ensures { λ r. ⌜ Hears (record { unit = now (unit .entry); line = now (line .entry); held = held }) (now (piece .entry)) (now (room .entry)) (record { unit = now (unit .exit); line = now (line .exit); held = r .held }) (now (room .exit)) (r .printed) ⌝ }
+    ensures { λ r. ⌜ Hears (record { unit = now (unit .entry); line = now (line .entry); held = held }) (now (piece .entry)) (now (room .entry)) (record { unit = now (unit .exit); line = now (line .exit); held = r .held }) (now (room .exit)) (r .printed) (r .taken) ⌝ }
 {
     let end = share(piece, room);
-    let mut here = Heard {
+    let mut here = Here {
         held: clip(line, held),
         printed: 0,
     };
@@ -60,7 +62,11 @@ pub fn hear(
         here = take_byte(unit, line, here, piece[k], room);
         k += 1;
     }
-    here
+    Heard {
+        held: here.held,
+        printed: here.printed,
+        taken: end,
+    }
 }
 
 // The end of the input: the last line may lack its line end.

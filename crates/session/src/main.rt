@@ -1,6 +1,8 @@
 // The session printer: standard input is read piece by piece, and the answers to a piece are on standard output before more is read.
 mod dialogue;
 
+ghost use Rattle.session.specs.Dialogue.{Kept};
+ghost use Rattle.session.specs.Program.{Turned, Looped};
 use crate::dialogue::LINE;
 use crate::dialogue::close;
 use crate::dialogue::hear;
@@ -21,7 +23,9 @@ struct Step {
 }
 
 // Reads once and answers what came.
-fn turn(unit: &mut Unit, line: &mut [u8; LINE], held: usize) -> Step {
+fn turn(unit: &mut Unit, line: &mut [u8; LINE], held: usize) -> Step
+    ensures { λ r. ⌜ Turned (record { unit = now (unit .entry); line = now (line .entry); held = held }) (record { unit = now (unit .exit); line = now (line .exit); held = r .held }) (r .more) ⌝ }
+{
     let mut piece = [0u8; PIECE];
     let got = libc::read(STDIN_FILENO, &mut piece);
     if got <= 0 {
@@ -39,7 +43,9 @@ fn turn(unit: &mut Unit, line: &mut [u8; LINE], held: usize) -> Step {
 }
 
 // A proved loop has to end, and nothing says that the input does: the turns are counted down from a number that no session uses up.
-fn serve(unit: &mut Unit, line: &mut [u8; LINE]) -> usize {
+fn serve(unit: &mut Unit, line: &mut [u8; LINE]) -> usize
+    ensures { λ r. ⌜ Looped (record { unit = now (unit .entry); line = now (line .entry); held = 0 }) (record { unit = now (unit .exit); line = now (line .exit); held = r }) ⌝ }
+{
     let mut held: usize = 0;
     let mut turns = u64::MAX;
     while turns > 0 {

@@ -3,6 +3,8 @@
 use mathlib.Core.Path.{sym}
 use borrow.Author.Needs.{needs}
 use lib.Seq.{length-take-le}
+use Rattle.session.specs.Program.{Turned}
+use Rattle.session.proofs.Program.{answered}
 use Rattle.session.proofs.dialogue.Told.{inside}
 use Rattle.session.proofs.turn.Statement.{statement}
 use Rattle.session.proofs.turn.Tie as tie
@@ -14,7 +16,7 @@ read-requires : tie.Need-read-requires
 read-requires c κs = search needs
 
 returns : tie.Need-returns
-returns c = search needs
+returns c = Turned.nothing
 
 slice-aggregate-count : tie.Need-slice-aggregate-count
 slice-aggregate-count c = search needs
@@ -44,7 +46,7 @@ write-all-requires : tie.Need-write-all-requires
 write-all-requires c κs = search needs
 
 returns-2 : tie.Need-returns-2
-returns-2 c = search needs
+returns-2 c = answered (search needs) (search needs) (c .before .before .before .hear .ensures)
 
 pub turn-spec : {M : Type 1} → statement M
 turn-spec =

@@ -5,12 +5,17 @@ ghost use lib.ListN.{length};
 ghost use Rattle.printer.specs.Answering.{Answers};
 ghost use Rattle.session.specs.Dialogue.{Kept};
 ghost use Rattle.session.specs.Byte.{Taken, Finished, ending};
-use crate::dialogue::Heard;
 use crate::dialogue::LINE;
 use dictionary::slots::Unit;
 use octets::putting::put;
 use printer::answering::answer;
 use printer::printing::show_unknown;
+
+// How many bytes of the line are held, and with how many bytes of answers the room begins.
+pub struct Here {
+    pub held: usize,
+    pub printed: usize,
+}
 
 // What answers a line that has come to its end.
 pub fn respond(unit: &mut Unit, line: &[u8], held: usize, text: &mut [u8; 64]) -> usize
@@ -38,10 +43,10 @@ fn finish(unit: &mut Unit, line: &[u8], held: usize, room: &mut [u8], printed: u
 pub fn take_byte(
     unit: &mut Unit,
     line: &mut [u8; LINE],
-    here: Heard,
+    here: Here,
     byte: u8,
     room: &mut [u8],
-) -> Heard
+) -> Here
     requires { ⌜ (here .held ≤ 65) × (here .printed + 64 ≤ length (now room)) ⌝ }
     ensures { λ r. ⌜ Taken (record { unit = now (unit .entry); line = now (line .entry); held = here .held }) byte (now (room .entry)) (here .printed) (record { unit = now (unit .exit); line = now (line .exit); held = r .held }) (now (room .exit)) (r .printed) ⌝ }
 {
@@ -49,16 +54,16 @@ pub fn take_byte(
     let printed = here.printed;
     if byte == b'\n' {
         let more = finish(unit, line, held, room, printed);
-        return Heard {
+        return Here {
             held: 0,
             printed: more,
         };
     }
     if held >= LINE {
-        return Heard { held, printed };
+        return Here { held, printed };
     }
     line[held] = byte;
-    Heard {
+    Here {
         held: held + 1,
         printed,
     }

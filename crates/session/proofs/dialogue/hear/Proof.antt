@@ -63,7 +63,7 @@ returns c =
     let a = c .before .before .before .before .before .before .before .before .before .args in
     let e = c .before .before .before .before .before .share .ensures in
     let d = done (c .before .loop .inv) (share-most (a .piece .now) (a .room .now) .1) (omega arith) in
-    record { kept = d .1; print = d .0 }
+    record { kept = d .1; print = d .0; count = e }
 
 pub hear-spec : {M : Type 1} → statement M
 hear-spec =
