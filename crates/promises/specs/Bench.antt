@@ -1,51 +1,41 @@
 -- The starred examples from the bench as rows of one table, each about a fresh unit, under one statement about the definitions.
 -- Assumes nothing.
 use Prim.Native.Nat.{ℕ}
-use mathlib.Core.Bool.{true}
 use mathlib.Core.Path.{_≡_}
 use mathlib.Core.List.{List, [], _∷_}
 use lib.Ieee.{binary32, ofBits}
 use lib.IntN.{ℤ, pos, negℤ}
-use Rattle.numbers.specs.Line.{lineAt}
 use Rattle.numbers.specs.Nearest.{nearest16}
-use Rattle.dictionary.specs.Names.{slot-of}
-use Rattle.entries.specs.Judge.{held}
+use Rattle.numbers.specs.Signed.{pattern16}
+use Rattle.signals.specs.declared.signal.Signal.the-variants.{Whole}
 use Rattle.roles.specs.Values.{at-start}
 use Rattle.sdo.specs.Answers.{answer}
-use Rattle.sdo.specs.Frames.{reply-to}
-use Rattle.input.specs.Input.{process}
-use Rattle.input.specs.declared.Settings.{Settings}
+use Rattle.sdo.specs.Frames.{reply, reply-to}
+use Rattle.table.specs.Table.{lookedUp}
+use Rattle.controller.specs.Tick.{ticked}
 
 pub data Example : Type 0 where
   -- a frame, and the reply
   frame : List ℕ → List ℕ → Example
-  -- a sample of input 1, and its process value
+  -- a sample of input 1, and the process value that is read after a tick with it
   sample : ℤ → ℤ → Example
-  -- two points of a line, an x, and the line there
+  -- the two points of a table, an x, and the table's signal
   points : ℤ → ℤ → ℤ → ℤ → ℤ → ℤ → Example
   -- a REAL32 by its bits, and the INTEGER16 that it becomes
   real : ℕ → ℤ → Example
 
--- input 1 of a fresh unit
-unfoldable pub fresh-input : Settings
-fresh-input =
-    record {
-      fv1 = held at-start (slot-of 0x7120 1);
-      pv1 = held at-start (slot-of 0x7121 1);
-      fv2 = held at-start (slot-of 0x7122 1);
-      pv2 = held at-start (slot-of 0x7123 1);
-      start = held at-start (slot-of 0x7148 1);
-      end = held at-start (slot-of 0x7149 1);
-      hysteresis = held at-start (slot-of 0x2111 1);
-      detect = true;
-      delay = 1000;
-    }
+-- the frame that reads 7130h:1
+unfoldable pub read-process : List ℕ
+read-process = 0x40 ∷ 0x30 ∷ 0x71 ∷ 0x01 ∷ 0x00 ∷ 0x00 ∷ 0x00 ∷ 0x00 ∷ []
 
 -- what a row says
 abbrev pub Shown : Example → Type 0
-Shown (frame f reply) = reply-to f (answer at-start f 8) ≡ reply
-Shown (sample v pv) = process fresh-input v ≡ pv
-Shown (points x1 y1 x2 y2 x y) = lineAt x1 y1 x2 y2 x ≡ y
+Shown (frame f bytes) = reply-to f (answer at-start f 8) ≡ bytes
+-- whatever the other inputs sample
+Shown (sample v pv) = (others : List ℤ) → reply-to read-process (answer (ticked (v ∷ others) at-start) read-process 8) ≡ reply read-process 0x4B (pattern16 pv)
+-- axis type 0, and response 1 at the second point
+Shown (points x1 y1 x2 y2 x y) =
+    lookedUp (0 ∷ 1 ∷ []) (pattern16 x1 ∷ pattern16 x2 ∷ []) (pattern16 y1 ∷ pattern16 y2 ∷ []) (Whole x) ≡ Whole y
 Shown (real bits n) = nearest16 (ofBits binary32 bits) ≡ n
 
 abbrev pub All : List Example → Type 0
