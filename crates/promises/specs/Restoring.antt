@@ -59,15 +59,17 @@ list-left (negsuc n) buffer = []
 
 -- ---- "sent to a controller that holds the first while no other configuration write comes between"
 
+-- a unit of the right length, whose configuration's words are these
 pub record Holds (unit words : List ℕ) : Type 0 where
   pub long : length unit ≡ unit-size
   pub front : take configured unit ≡ words
 
+-- the call, and a controller that holds the first
 pub record Restoring (current wanted buffer buffer′ : List ℕ) (r : ℤ) (unit : List ℕ) : Type 0 where
   pub called : Called current wanted buffer buffer′ r
   pub holds : Holds unit (configuration-in current)
 
--- "while no other configuration write comes between": a tick, a read, a refused frame, a write to 2500h, a load that leaves every entry as it was
+-- what may come between: a tick, a read, a refused frame, a write to 2500h, a load that leaves every entry as it was
 abbrev pub Calm : Event → List ℕ → Type 0
 Calm (frame f room) unit = (slot word : ℕ) → answer unit f room ≡ Written slot word → configured ≤ slot
 Calm (tick samples) unit = Unit
@@ -81,7 +83,7 @@ pub data Sent : List (List ℕ) → List ℕ → List ℕ → Type 0 where
 
 -- ---- what is promised
 
--- "The list we make from them": one is made, whatever the two images are; 5,207 bytes are always enough, and those behind it stay
+-- "The list we make from them": one is made of any two such images; 5,207 bytes are always enough, and those behind it stay
 abbrev pub Always-fits : Type 0
 Always-fits =
     (current wanted buffer buffer′ : List ℕ) (r : ℤ) → Called current wanted buffer buffer′ r
@@ -165,7 +167,7 @@ Taken-up-again =
     → (again again′ : List ℕ) (s : ℤ) → 5207 ≤ length again → Restored (image-of unit′) wanted again again′ s
     → Restoring (image-of unit′) wanted again again′ s unit′ × (frames-in (list-left s again′) ≡ rest)
 
--- the yard has what this takes for given: the image that a unit would save is such an image, and the unit holds it; from the start, after any list of frames and ticks
+-- such images and controllers are there: from the start, after any list of events, the image that a unit would save is one, and the unit holds it
 abbrev pub Own-image : Type 0
 Own-image = (events : List Event) → Made-of-bytes events → let unit = run events at-start in Proper (image-of unit) × Holds unit (configuration-in (image-of unit))
 

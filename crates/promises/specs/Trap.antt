@@ -16,7 +16,7 @@ use Rattle.records.specs.Layout.{image-of}
 use Rattle.promises.specs.Delivery.{frames-in}
 use Rattle.promises.specs.Restoring.{Restoring}
 
--- a unit as at start, where the X of table 1 are 0, 100, .. 1000; and one in which they are 500, 600, .. 1500
+-- the unit at start, but that the X of table 1 are 500, 600, .. 1500 and not 0, 100, .. 1000
 unfoldable pub moved : List ℕ
 moved = sets at-start (slot-of 0x3015 1) (500 ∷ 600 ∷ 700 ∷ 800 ∷ 900 ∷ 1000 ∷ 1100 ∷ 1200 ∷ 1300 ∷ 1400 ∷ 1500 ∷ [])
 
