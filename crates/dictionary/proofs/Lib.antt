@@ -1,4 +1,5 @@
 pub mod Apart
+pub mod Once
 pub mod OneEach
 pub mod Sieve
 pub mod Tabulate

@@ -1,4 +1,5 @@
 pub mod ChainTrips
 pub mod ImageTrips
 pub mod LoadLaws
+pub mod Once
 pub mod RecordTrips

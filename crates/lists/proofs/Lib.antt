@@ -1,2 +1,3 @@
 pub mod CopyingLaws
 pub mod ListLaws
+pub mod Once

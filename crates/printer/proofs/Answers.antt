@@ -5,10 +5,14 @@ use mathlib.Core.List.{List}
 use mathlib.Core.Path.{_≡_, ap, sym, _∙_}
 use native.Mathlib.Omega.{arith}
 use lib.ListN.{length, drop, length-append, length-drop}
+use Rattle.printer.specs.Answering.{Said, Answers}
 use Rattle.printer.specs.Printing.{Printed}
 
 pub printed-once : {answer before x y : List ℕ} {m n : ℕ} → Printed answer before x m → Printed answer before y n → (x ≡ y) × (m ≡ n)
 printed-once p q = (p .bytes ∙ sym (q .bytes), p .counted ∙ sym (q .counted))
+
+pub answered-once : {s : Said} {u v before x y : List ℕ} {m n : ℕ} → Answers s u before x m → Answers s v before y n → (u ≡ v) × (x ≡ y) × (m ≡ n)
+answered-once p q = let printed = printed-once (p .print) (q .print) in (p .left ∙ sym (q .left), printed .0, printed .1)
 
 pub printed-fits : {answer before after : List ℕ} {count : ℕ} → Printed answer before after count → length after ≡ length before → count ≤ length before
 printed-fits {answer} {before} p e =

@@ -3,8 +3,9 @@
 use Rattle.output.proofs.OutputLaws as OutputLaws
 use Rattle.promises.specs.Demands.{Demand-1, Demand-2, Demand-3}
 use Rattle.promises.proofs.Bench as Bench
+use Rattle.promises.proofs.FrameRefusals as FrameRefusals
 use Rattle.promises.proofs.Images as Images
-use Rattle.promises.proofs.Refusals as Refusals
+use Rattle.promises.proofs.ImageRefusals as ImageRefusals
 use Rattle.promises.proofs.Restoring as Restoring
 use Rattle.promises.proofs.Running as Running
 use Rattle.promises.proofs.Ticking as Ticking
@@ -16,18 +17,21 @@ use Rattle.promises.proofs.Serving as Serving
 pub demand-1 : Demand-1
 demand-1 =
     record {
-      one-answer = Serving.determined;
-      one-list = Restoring.one-list;
+      frames-meet-theirs = FrameRefusals.frames-meet-theirs;
+      images-meet-theirs = ImageRefusals.images-meet-theirs;
       images-told-apart = Images.accepts-exactly;
-      images-meet-theirs = Refusals.images-meet-theirs;
-      told-to-C = Refusals.told-to-C;
-      one-to-seven = Refusals.one-to-seven;
-      number-tells-which = Refusals.number-tells-which;
+      told-to-C = ImageRefusals.told-to-C;
+      one-to-seven = ImageRefusals.one-to-seven;
+      number-tells-which = ImageRefusals.number-tells-which;
+      one-answer = Serving.determined;
+      one-outcome = Images.one-outcome;
+      one-for-C = ImageRefusals.one-for-C;
+      one-list = Restoring.one-list;
       frames-refused = Serving.untouched;
       first-eight-only = Serving.first-eight-only;
       images-refused = Images.refusals-write-nothing;
       lists-refused = Restoring.refused-lists-write-nothing;
-      same-for-C = Refusals.same-for-C;
+      same-for-C = ImageRefusals.same-for-C;
     }
 
 pub demand-2 : Demand-2

@@ -25,9 +25,10 @@ use Rattle.image.proofs.reading.Acceptance.{Accepted, accepted, accepts, not-go
 use Rattle.image.specs.Written.{Written, image-size}
 use Rattle.records.proofs.SizeLaws.{image-length}
 use Rattle.image.specs.Loaded.{loaded}
+use Rattle.image.proofs.Once.{written-once, loaded-once}
 use Rattle.image.proofs.ImageTrips.{configuration-back, image-accepted, bytes-again, configuration-valid, all-listed, entry-index, entry-sub, data-at}
 use Rattle.promises.specs.Running.{run}
-use Rattle.promises.specs.Images.{Saved-reads-back, Same-bytes-again, Accepts-exactly, One-configuration-each, Refusals-write-nothing, Looked-up-as-it-stands}
+use Rattle.promises.specs.Images.{Saved-reads-back, Same-bytes-again, Accepts-exactly, One-configuration-each, Refusals-write-nothing, One-outcome, Looked-up-as-it-stands}
 use Rattle.promises.proofs.Running.{sizes, always-sound}
 
 -- ---- what a contract leaves
@@ -106,6 +107,9 @@ pub refusals-write-nothing : Refusals-write-nothing
 unfolding loaded
 refusals-write-nothing =
     (λ words buffer buffer′ why s. nothing-there s why refl, λ image unit unit′ why l. l .state ∙ ap (loaded image unit) (sym (l .answered)))
+
+pub one-outcome : One-outcome
+one-outcome = (λ words buffer b₁ b₂ r s p q. written-once p q, λ image unit u₁ u₂ r s p q. loaded-once p q)
 
 pub looked-up-as-it-stands : Looked-up-as-it-stands
 looked-up-as-it-stands image b g = (

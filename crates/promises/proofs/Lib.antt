@@ -2,6 +2,8 @@ pub mod Accepted
 pub mod Bench
 pub mod ByteLaws
 pub mod Demands
+pub mod FrameRefusals
+pub mod ImageRefusals
 pub mod Images
 pub mod Judged
 pub mod ListFrames
@@ -10,7 +12,6 @@ pub mod Proper
 pub mod Reached
 pub mod ReadBack
 pub mod RecordFrames
-pub mod Refusals
 pub mod Restoring
 pub mod Running
 pub mod Serving

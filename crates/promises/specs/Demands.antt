@@ -2,8 +2,9 @@
 -- Assumes nothing.
 use Rattle.output.specs.Commanded.{Some-rule, Rules-1-to-6, Rule-7}
 use Rattle.promises.specs.Bench.{On-the-bench}
-use Rattle.promises.specs.Images.{Saved-reads-back, Same-bytes-again, Accepts-exactly, One-configuration-each, Refusals-write-nothing, Looked-up-as-it-stands}
-use Rattle.promises.specs.Refusals.{Images-meet-theirs, One-to-seven, Told-to-C, Same-for-C, Number-tells-which}
+use Rattle.promises.specs.FrameRefusals.{Frames-meet-theirs}
+use Rattle.promises.specs.Images.{Saved-reads-back, Same-bytes-again, Accepts-exactly, One-configuration-each, Refusals-write-nothing, One-outcome, Looked-up-as-it-stands}
+use Rattle.promises.specs.ImageRefusals.{Images-meet-theirs, One-to-seven, Told-to-C, Same-for-C, One-for-C, Number-tells-which}
 use Rattle.promises.specs.Restoring.{Always-fits, Count-is-difference, Equal-images, Each-accepted, Arrives, Shortest, Cut-anywhere, Taken-up-again, Turned-away-exactly, Own-image, Refused-lists-write-nothing, One-list}
 use Rattle.promises.specs.Running.{Only-the-fold, Always-sound}
 use Rattle.promises.specs.Ticking.{No-nan, Every-tick}
@@ -13,19 +14,25 @@ use Rattle.promises.specs.Serving.{Untouched, First-eight-only, That-one
 
 -- "Every frame, image and sample is taken. .. Each call ends, and no caller has to look first": no public function has a `requires`, and the checker proves that each ends
 pub record Demand-1 : Type 0 where
-  -- "Bad input meets its listed refusal": a frame has one answer, with all that it leaves
-  pub one-answer : Determined
-  -- two images and a buffer have one list, or one refusal
-  pub one-list : One-list
-  -- an image is refused exactly where it is not that of a configuration in range and in order
-  pub images-told-apart : Accepts-exactly
-  -- bytes meet the first of the refusals that are listed for an image, by the paper's number
+  -- "Bad input meets its listed refusal": a frame the first row of the paper's table that applies, or it is good
+  pub frames-meet-theirs : Frames-meet-theirs
+  -- an image the first that is listed for images, by the paper's number
   pub images-meet-theirs : Images-meet-theirs
+  -- so it is refused exactly where it is not that of a configuration in range and in order
+  pub images-told-apart : Accepts-exactly
   -- C is told that number
   pub told-to-C : Told-to-C
-  -- "-n for the current image, -(10+n) for the wanted, then -8 for room": it tells which of them it was, since 8 is no image's
+  -- "-n for the current image, -(10+n) for the wanted, then -8 for room": the number tells which of them it was, since 8 is no image's
   pub one-to-seven : One-to-seven
   pub number-tells-which : Number-tells-which
+  -- and each has one answer, with all that it leaves: a frame
+  pub one-answer : Determined
+  -- an image that is written or loaded
+  pub one-outcome : One-outcome
+  -- what C calls
+  pub one-for-C : One-for-C
+  -- two images and a buffer for the list
+  pub one-list : One-list
   -- "after a refusal the controller and the lent buffers hold what they held before, save for an abort frame where a reply is due": of a frame
   pub frames-refused : Untouched
   pub first-eight-only : First-eight-only

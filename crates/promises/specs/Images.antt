@@ -50,6 +50,12 @@ Refusals-write-nothing =
     ((words buffer buffer′ : List ℕ) (why : Refusal) → Written words buffer buffer′ (Refused why) → buffer′ ≡ buffer)
     × ((image unit unit′ : List ℕ) (why : Refusal) → Loaded image unit unit′ (Refused why) → unit′ ≡ unit)
 
+-- two answers that the contracts of writing and of loading an image allow are equal, with all that they leave
+abbrev pub One-outcome : Type 0
+One-outcome =
+    ((words buffer b₁ b₂ : List ℕ) (r s : Outcome) → Written words buffer b₁ r → Written words buffer b₂ s → (r ≡ s) × (b₁ ≡ b₂))
+    × ((image unit u₁ u₂ : List ℕ) (r s : Outcome) → Loaded image unit u₁ r → Loaded image unit u₂ s → (r ≡ s) × (u₁ ≡ u₂))
+
 -- "The bytes of one record's value are handed on as they stand in the image": for an entry's name those of its word, for any other name none
 abbrev pub Looked-up-as-it-stands : Type 0
 Looked-up-as-it-stands =

@@ -1,8 +1,9 @@
 pub mod Bench
 pub mod Delivery
 pub mod Demands
+pub mod FrameRefusals
+pub mod ImageRefusals
 pub mod Images
-pub mod Refusals
 pub mod Restoring
 pub mod Running
 pub mod Serving

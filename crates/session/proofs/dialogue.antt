@@ -1,4 +1,5 @@
 pub mod Bytes
+pub mod Once
 pub mod Pieces
 pub mod Short
 pub mod Steps

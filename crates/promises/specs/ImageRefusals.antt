@@ -1,4 +1,4 @@
--- "Bad input meets its listed refusal": the paper's lists of refusals, row by row in their order, and that the first row that applies answers.
+-- "Bad input meets its listed refusal", of images: the refusals in the paper's order, and the numbers that C is told.
 -- Assumes nothing.
 use Prim.Native.Nat.{ℕ, _+_, _<_, _≤_}
 use mathlib.Core.Bool.{Bool, not, _&&_}
@@ -24,11 +24,7 @@ use Rattle.lists.specs.Changes.{list-of}
 use Rattle.firmware.specs.Replied.{Replied}
 use Rattle.firmware.specs.Told.{ToldSaved, ToldLoaded}
 use Rattle.gateway.specs.Restored.{Restored}
-
--- the answer of the first row that applies, or else the last
-unfoldable pub first-match : {A : Type 0} → List (Bool × A) → A → A
-first-match [] other = other
-first-match (row ∷ rows) other = first (row .0) (row .1) (first-match rows other)
+use Rattle.promises.specs.FrameRefusals.{first-match}
 
 -- ---- images: "Readings refuse, records in order"
 
@@ -92,6 +88,13 @@ Same-for-C =
     ((unit frame reply unit′ reply′ : List ℕ) (r : ℤ) → Replied unit frame reply unit′ reply′ r → Served unit frame reply unit′ reply′ (answer unit frame (length reply)))
     × ((unit image unit′ : List ℕ) (r : ℤ) → ToldLoaded unit image unit′ r → Loaded image unit unit′ (reading image))
     × ((unit image image′ : List ℕ) (r : ℤ) → ToldSaved unit image image′ r → Written unit image image′ (first (ltb (length image) image-size) (Refused NoRoom) Good))
+
+-- two answers that the contracts of C's calls allow are equal, with all that they leave
+abbrev pub One-for-C : Type 0
+One-for-C =
+    ((unit frame reply u₁ b₁ u₂ b₂ : List ℕ) (r s : ℤ) → Replied unit frame reply u₁ b₁ r → Replied unit frame reply u₂ b₂ s → (r ≡ s) × (u₁ ≡ u₂) × (b₁ ≡ b₂))
+    × ((unit image u₁ u₂ : List ℕ) (r s : ℤ) → ToldLoaded unit image u₁ r → ToldLoaded unit image u₂ s → (r ≡ s) × (u₁ ≡ u₂))
+    × ((unit image b₁ b₂ : List ℕ) (r s : ℤ) → ToldSaved unit image b₁ r → ToldSaved unit image b₂ s → (r ≡ s) × (b₁ ≡ b₂))
 
 -- "list length in bytes, or -n for the current image, -(10+n) for the wanted, then -8 for room": of what the two images meet, the list's bytes and the buffer's
 pub record Tells (current wanted list room : ℕ) (r : ℤ) : Type 0 where

@@ -1,4 +1,4 @@
--- The listed refusals are met.
+-- The listed refusals of images are met, and C is told which.
 -- Assumes nothing.
 use Prim.Native.Nat.{ℕ, zero, suc, _+_, _-_, _*_, _<_, _≤_}
 use mathlib.Core.Bool.{Bool, true, false, not, _&&_, and-eq-true-iff}
@@ -30,8 +30,10 @@ use Rattle.image.specs.Written.{image-size}
 use Rattle.lists.specs.Changes.{list-of}
 use Rattle.lists.specs.Listing.{made}
 use Rattle.lists.specs.declared.types.Made.the-variants as made
+use Rattle.firmware.proofs.Once.{replied-once, saved-once, loaded-once}
 use Rattle.gateway.specs.Restored as restored
-use Rattle.promises.specs.Refusals.{first-match, record-rows, records-rows, image-rows, met, Images-meet-theirs, One-to-seven, Told-to-C, Same-for-C, Tells, Number-tells-which}
+use Rattle.promises.specs.FrameRefusals.{first-match}
+use Rattle.promises.specs.ImageRefusals.{record-rows, records-rows, image-rows, met, Images-meet-theirs, One-to-seven, Told-to-C, Same-for-C, One-for-C, Tells, Number-tells-which}
 
 -- ---- the records of an image
 
@@ -137,6 +139,9 @@ same-for-C = (
   λ unit bytes unit′ r s. record { answered = refl; state = s .state },
   λ unit bytes bytes′ r s. record { answered = refl; bytes = s .bytes },
 )
+
+pub one-for-C : One-for-C
+one-for-C = (λ unit frame reply u₁ b₁ u₂ b₂ r s p q. replied-once p q, λ unit bytes u₁ u₂ r s p q. loaded-once p q, λ unit bytes b₁ b₂ r s p q. saved-once p q)
 
 -- a number of either sign, as one that omega reads: twice itself, or one less where it is below zero
 code : ℤ → ℕ
