@@ -18,6 +18,7 @@ pub demand-1 : Demand-1
 demand-1 =
     record {
       frames-meet-theirs = FrameRefusals.frames-meet-theirs;
+      codes-as-listed = FrameRefusals.codes-as-listed;
       images-meet-theirs = ImageRefusals.images-meet-theirs;
       images-told-apart = Images.accepts-exactly;
       told-to-C = ImageRefusals.told-to-C;

@@ -20,12 +20,12 @@ use Rattle.roles.specs.Values.{range-of}
 use Rattle.entries.specs.Judge.{number-of, finite, within, in-range, past-upper, past-lower, in-order, before, judged}
 use Rattle.entries.specs.declared.types.Verdict.the-variants as verdict
 use Rattle.sdo.specs.Answers.{size-of, reading, stored, offered, refused, writing, obeyed, silent, answer}
-use Rattle.sdo.specs.Frames.{command-of, index-in, sub-in, data-in}
+use Rattle.sdo.specs.Frames.{command-of, index-in, sub-in, data-in, code}
 use Rattle.sdo.specs.declared.types.Abort.the-variants as abort
 use Rattle.sdo.specs.declared.types.Answer.{Answer}
 use Rattle.sdo.specs.declared.types.Answer.the-variants.{Silent, Aborted, Written}
 use Rattle.sdo.specs.declared.types.Command.the-variants.{Read, Write, Other}
-use Rattle.promises.specs.FrameRefusals.{first-match, written-by, unknown-index, unknown-sub, read-only, name-rows, frame-rows, good, Frames-meet-theirs}
+use Rattle.promises.specs.FrameRefusals.{first-match, bytes-written, unknown-index, unknown-sub, read-only, name-rows, frame-rows, good, code-sent, Frames-meet-theirs, Codes-as-listed}
 
 -- ---- rows 7 to 9: the judgement, row by row
 
@@ -65,12 +65,12 @@ module _ (unit frame : List ℕ) where
   -- what the table says from row 2 on, of a command byte
   from-row-2 : ℕ → Answer
   from-row-2 byte =
-      let size = written-by byte in
+      let size = bytes-written byte in
       first (not (eqb byte 0x40 || ltb 0 size)) (Aborted abort.Command)
       (first-match (name-rows unit name size (data-in size frame)) (first (ltb 0 size) (Written (slot-found name) (data-in size frame)) (reading unit name)))
 
   commanded : (byte : ℕ) → obeyed unit frame (command-of byte) ≡ from-row-2 byte
-  unfolding obeyed command-of written-by chosen first name from-row-2
+  unfolding obeyed command-of bytes-written chosen first name from-row-2
   commanded byte = go (eqb byte 0x40) (eqb byte 0x23) (eqb byte 0x27) (eqb byte 0x2B) (eqb byte 0x2F) refl refl refl refl refl
     where
       go : (read four three two one : Bool) → eqb byte 0x40 ≡ read → eqb byte 0x23 ≡ four → eqb byte 0x27 ≡ three → eqb byte 0x2B ≡ two → eqb byte 0x2F ≡ one
@@ -85,3 +85,7 @@ module _ (unit frame : List ℕ) where
 pub frames-meet-theirs : Frames-meet-theirs
 unfolding answer silent frame-rows first-match good name from-row-2
 frames-meet-theirs unit frame room = ap (first (silent frame room) Silent) (commanded unit frame (getD frame 0 0))
+
+pub codes-as-listed : Codes-as-listed
+unfolding frame-rows name-rows code-sent code
+codes-as-listed unit frame room = refl

@@ -2,7 +2,7 @@
 -- Assumes nothing.
 use Rattle.output.specs.Commanded.{Some-rule, Rules-1-to-6, Rule-7}
 use Rattle.promises.specs.Bench.{On-the-bench}
-use Rattle.promises.specs.FrameRefusals.{Frames-meet-theirs}
+use Rattle.promises.specs.FrameRefusals.{Frames-meet-theirs, Codes-as-listed}
 use Rattle.promises.specs.Images.{Saved-reads-back, Same-bytes-again, Accepts-exactly, One-configuration-each, Refusals-write-nothing, One-outcome, Looked-up-as-it-stands}
 use Rattle.promises.specs.ImageRefusals.{Images-meet-theirs, One-to-seven, Told-to-C, Same-for-C, One-for-C, Number-tells-which}
 use Rattle.promises.specs.Restoring.{Always-fits, Count-is-difference, Equal-images, Each-accepted, Arrives, Shortest, Cut-anywhere, Taken-up-again, Turned-away-exactly, Own-image, Refused-lists-write-nothing, One-list}
@@ -16,6 +16,7 @@ use Rattle.promises.specs.Serving.{Untouched, First-eight-only, That-one
 pub record Demand-1 : Type 0 where
   -- "Bad input meets its listed refusal": a frame the first row of the paper's table that applies, or it is good
   pub frames-meet-theirs : Frames-meet-theirs
+  pub codes-as-listed : Codes-as-listed
   -- an image the first that is listed for images, by the paper's number
   pub images-meet-theirs : Images-meet-theirs
   -- so it is refused exactly where it is not that of a configuration in range and in order

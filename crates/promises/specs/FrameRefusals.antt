@@ -3,7 +3,7 @@
 use Prim.Native.Nat.{ℕ}
 use mathlib.Core.Bool.{Bool, true, false, not, _&&_, _||_}
 use mathlib.Core.Path.{_≡_}
-use mathlib.Core.List.{List, [], _∷_}
+use mathlib.Core.List.{List, [], _∷_, map}
 use lib.Dec.{eqb, ltb}
 use lib.ListN.{length, getD}
 use Rattle.numbers.specs.Choice.{first}
@@ -18,10 +18,10 @@ use Rattle.roles.specs.Roles.{chosen}
 use Rattle.roles.specs.Values.{range-of}
 use Rattle.entries.specs.Judge.{number-of, finite, past-upper, past-lower}
 use Rattle.sdo.specs.Answers.{reading, answer}
-use Rattle.sdo.specs.Frames.{index-in, sub-in, data-in}
+use Rattle.sdo.specs.Frames.{index-in, sub-in, data-in, code}
 use Rattle.sdo.specs.declared.types.Abort.the-variants as abort
 use Rattle.sdo.specs.declared.types.Answer.{Answer}
-use Rattle.sdo.specs.declared.types.Answer.the-variants.{Silent, Aborted, Written}
+use Rattle.sdo.specs.declared.types.Answer.the-variants.{Silent, Aborted, Value, Written}
 
 -- the answer of the first row that applies, or else the last
 unfoldable pub first-match : {A : Type 0} → List (Bool × A) → A → A
@@ -29,9 +29,10 @@ first-match [] other = other
 first-match (row ∷ rows) other = first (row .0) (row .1) (first-match rows other)
 
 -- "Writes of 4, 3, 2, 1 bytes are 23h, 27h, 2Bh, 2Fh": how many bytes a command writes; none, if it is no write
-unfoldable pub written-by : ℕ → ℕ
-written-by command = chosen ((0x23, 4) ∷ (0x27, 3) ∷ (0x2B, 2) ∷ (0x2F, 1) ∷ []) 0 command
+unfoldable pub bytes-written : ℕ → ℕ
+bytes-written command = chosen ((0x23, 4) ∷ (0x27, 3) ∷ (0x2B, 2) ∷ (0x2F, 1) ∷ []) 0 command
 
+-- what a name stands for may be nothing: no object has the index, or the object no such sub
 unfoldable pub unknown-index : Found → Bool
 unknown-index NoIndex = true
 unknown-index NoSub = false
@@ -78,10 +79,11 @@ name-rows unit name size word =
     ∷ (write && past-lower unit (lower-of slot) (signed16 word), Aborted abort.ChainDown)
     ∷ []
 
+-- the table
 unfoldable pub frame-rows : List ℕ → List ℕ → ℕ → List (Bool × Answer)
 frame-rows unit frame room =
     let command = getD frame 0 0 in
-    let size = written-by command in
+    let size = bytes-written command in
     -- "1 | frame not 8 long, reply buffer under 8, or command 80h | no reply, buffer untouched"
     (not (eqb (length frame) 8) || (ltb room 8 || eqb command 0x80), Silent)
     -- "2 | other command byte | 05040001h"; "a read is 40h"
@@ -91,10 +93,35 @@ frame-rows unit frame room =
 -- the answer to a good frame: what is written is stored in its entry's word, or what is read is sent
 unfoldable pub good : List ℕ → List ℕ → Answer
 good unit frame =
-    let size = written-by (getD frame 0 0) in
+    let size = bytes-written (getD frame 0 0) in
     let name = find (index-in frame) (sub-in frame) in
     first (ltb 0 size) (Written (slot-found name) (data-in size frame)) (reading unit name)
 
--- any frame to any unit, with any room for the reply
+-- so is answered any frame to any unit, with any room for the reply
 abbrev pub Frames-meet-theirs : Type 0
 Frames-meet-theirs = (unit frame : List ℕ) (room : ℕ) → answer unit frame room ≡ first-match (frame-rows unit frame room) (good unit frame)
+
+-- the code that an answer sends, if any
+unfoldable pub code-sent : Answer → ℕ
+code-sent Silent = 0
+code-sent (Aborted a) = code a
+code-sent (Value word size) = 0
+code-sent (Written slot word) = 0
+
+-- the rows' codes are those that stand above them
+abbrev pub Codes-as-listed : Type 0
+Codes-as-listed =
+    (unit frame : List ℕ) (room : ℕ) → map (λ (row : Bool × Answer). code-sent (row .1)) (frame-rows unit frame room)
+    ≡ 0
+    ∷ 0x05040001
+    ∷ 0x06020000
+    ∷ 0x06090011
+    ∷ 0x06010002
+    ∷ 0x06070012
+    ∷ 0x06070013
+    ∷ 0x06090030
+    ∷ 0x06090031
+    ∷ 0x06090032
+    ∷ 0x06090031
+    ∷ 0x06090032
+    ∷ []
