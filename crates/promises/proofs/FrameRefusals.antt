@@ -2,29 +2,23 @@
 -- Assumes nothing.
 use Prim.Native.Nat.{ℕ}
 use mathlib.Core.Bool.{Bool, true, false, not, _||_}
-use mathlib.Core.Path.{_≡_, refl, sym, ap, _∙_}
+use mathlib.Core.Path.{_≡_, refl, ap}
 use mathlib.Core.List.{List}
 use borrow.Author.Tests.{eqb-true}
 use lib.Dec.{eqb, ltb}
 use lib.ListN.{getD}
 use Rattle.numbers.specs.Choice.{first}
-use Rattle.numbers.specs.Order.{below}
-use Rattle.numbers.specs.Signed.{signed16}
-use Rattle.dictionary.specs.Names.{find, slot-found, writable}
-use Rattle.dictionary.specs.Rows.{width}
+use Rattle.dictionary.specs.Names.{find, slot-found}
 use Rattle.dictionary.specs.declared.types.Found.{Found}
 use Rattle.dictionary.specs.declared.types.Found.the-variants.{NoIndex, NoSub, Count, At}
-use Rattle.roles.specs.Chains.{upper-of, lower-of}
 use Rattle.roles.specs.Roles.{chosen}
-use Rattle.roles.specs.Values.{range-of}
-use Rattle.entries.specs.Judge.{number-of, finite, within, in-range, past-upper, past-lower, in-order, before, judged}
+use Rattle.entries.specs.Judge.{within, in-range, in-order, before, judged}
 use Rattle.entries.specs.declared.types.Verdict.the-variants as verdict
 use Rattle.sdo.specs.Answers.{size-of, reading, stored, offered, refused, writing, obeyed, silent, answer}
 use Rattle.sdo.specs.Frames.{command-of, index-in, sub-in, data-in, code}
 use Rattle.sdo.specs.declared.types.Abort.the-variants as abort
 use Rattle.sdo.specs.declared.types.Answer.{Answer}
 use Rattle.sdo.specs.declared.types.Answer.the-variants.{Silent, Aborted, Written}
-use Rattle.sdo.specs.declared.types.Command.the-variants.{Read, Write, Other}
 use Rattle.promises.specs.FrameRefusals.{first-match, bytes-written, unknown-index, unknown-sub, read-only, name-rows, frame-rows, good, code-sent, Frames-meet-theirs, Codes-as-listed}
 
 -- ---- rows 7 to 9: the judgement, row by row

@@ -1,6 +1,6 @@
 -- The listed refusals of images are met, and C is told which.
 -- Assumes nothing.
-use Prim.Native.Nat.{ℕ, zero, suc, _+_, _-_, _*_, _<_, _≤_}
+use Prim.Native.Nat.{ℕ, zero, suc, _+_, _-_, _*_, _≤_}
 use mathlib.Core.Bool.{Bool, true, false, not, _&&_, and-eq-true-iff}
 use mathlib.Core.Path.{_≡_, refl, sym, ap, _∙_}
 use mathlib.Core.List.{List, [], _∷_, _++_}
@@ -12,7 +12,6 @@ use lib.ListN.{length, take, drop}
 use Rattle.octets.specs.Little.{little}
 use Rattle.numbers.specs.Choice.{first, every}
 use Rattle.numbers.proofs.Choices.{chosen}
-use Rattle.dictionary.specs.Names.{configured}
 use Rattle.dictionary.proofs.naming.NameLaws.{counted}
 use Rattle.records.specs.Layout.{Listed, listed, size, extent}
 use Rattle.records.specs.Walk.{number, outcome-number, index-in, sub-in, size-in, data-in, fits, valued, sized, decoded, behind, and-then, walked, taken-in}
