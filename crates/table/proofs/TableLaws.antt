@@ -18,10 +18,11 @@ use Rattle.numbers.specs.Choice.{first}
 use Rattle.numbers.specs.Line.{nearestSize, nearest, between, lineAt}
 use Rattle.numbers.specs.Signed.{signed16, twos}
 use Rattle.numbers.specs.Order.{below}
-use Rattle.numbers.proofs.Orders.{not-below-is-le, le-is-not-below}
+use Rattle.numbers.proofs.Orders.{lt-is-below, not-below-is-le, le-is-not-below}
 use Rattle.numbers.proofs.Tests.{le-below}
 use Rattle.numbers.proofs.ExactLaws.{back}
 use Rattle.numbers.proofs.OrderLaws.{≤ℤ-trans}
+use Rattle.table.specs.Sentence.{Sentence}
 use Rattle.table.specs.Table.{least, value, unused, used, reaches, place, interval, curve}
 
 -- ---- the least number at which a test holds
@@ -147,8 +148,17 @@ pub at-first : (response x y : List ℕ) (v : ℤ) → reaches x v 0 ≡ true �
 unfolding curve first
 at-first response x y v e = rw e
 
+-- the first point is always used, and no more than eleven are
+some-used : (response : List ℕ) → 1 ≤ used response
+unfolding used
+some-used response = least-from (unused response) 1 10
+
+pub used-most : (response : List ℕ) → used response ≤ 11
+unfolding used
+used-most response = least-to (unused response) 1 10
+
 -- ---- where the X rise, no used point is reached exactly where x > Xm, and the curve is the paper's sentence
-pub Rising : List ℕ → ℕ → Type 0
+unfoldable pub Rising : List ℕ → ℕ → Type 0
 Rising x m = (k : ℕ) → k + 1 < m → value x k ≤ℤ value x (k + 1)
 
 up-to : (x : List ℕ) (m j n : ℕ) → Rising x m → j + n < m → value x j ≤ℤ value x (j + n)
@@ -163,8 +173,8 @@ module _ (response x : List ℕ) (v : ℤ) (rise : Rising x (used response)) (pa
   m = used response
 
   some : 1 ≤ m
-  unfolding m used
-  some = least-from (unused response) 1 10
+  unfolding m
+  some = some-used response
 
   passes : (k : ℕ) → reaches x v k ≡ false → below (value x k) v ≡ true
   unfolding reaches
@@ -203,18 +213,27 @@ module _ (response x : List ℕ) (v : ℤ) (rise : Rising x (used response)) (pa
     by (yes q) = eq-eqb _ _ q ∙ sym (missed q)
     by (no q) = ne-eqb _ _ q ∙ sym (found (omega (arith, no-farther, q)))
 
--- "x <= X1 gives Y1; x > Xm gives Ym; else with the least i where x <= Xi" the interval before it
-pub sentence : (response x y : List ℕ) (v : ℤ) → Rising x (used response) →
-    curve response x y v ≡
-    first (reaches x v 0) (value y 0)
-    (first (below (value x (used response - 1)) v) (value y (used response - 1)) (interval response x y v (place response x v)))
-unfolding curve first
-sentence response x y v rise = by (reaches x v 0) refl where
-  by : (t : Bool) → reaches x v 0 ≡ t → curve response x y v ≡
-      first t (value y 0)
-      (first (below (value x (used response - 1)) v) (value y (used response - 1)) (interval response x y v (place response x v)))
-  by true e = rw e
-  by false e = rw (e, past-last response x v rise e)
+pub sentence : (response x y : List ℕ) (v : ℤ) → Rising x (used response) → Sentence response x y v
+unfolding curve reaches first
+sentence response x y v rise =
+    record {
+      to-first = λ h. rw (le-is-not-below h);
+      past-last = λ h.
+          let beyond = lt-is-below h in
+          let past = past-first beyond in
+          rw (past, past-last response x v rise (ap not past), beyond);
+      between = λ h l. let past = lt-is-below h in rw (past, past-last response x v rise (ap not past), le-is-not-below l);
+    }
+  where
+    -- the first X is not above the last
+    rises : value x 0 ≤ℤ value x (used response - 1)
+    rises = let from : 0 + (used response - 1) ≡ used response - 1 = omega arith in rw from at (up-to x (used response) 0 (used response - 1) rise (omega (arith, some-used response)))
+
+    past-first : below (value x (used response - 1)) v ≡ true → below (value x 0) v ≡ true
+    past-first e = by (below (value x 0) v) refl where
+      by : (t : Bool) → below (value x 0) v ≡ t → t ≡ true
+      by true f = refl
+      by false f = sym (le-is-not-below (≤ℤ-trans (not-below-is-le (value x 0) v f) rises)) ∙ e
 
 -- ---- "Points (0,-1), (2,0), x = 1: -1", with a jump to (4, 10) and a fourth point that response 0 leaves unused
 unfoldable pub example : ℤ → ℤ
