@@ -33,11 +33,12 @@ use Rattle.unit.specs.Sources.{sourced}
 use Rattle.output.specs.Outputs.{settings, commandOf, outputTurn}
 use Rattle.controller.specs.Tick.{ticked}
 use Rattle.controller.specs.Commands.{control, enable, override, ruleFor, Commanded}
+use Rattle.controller.specs.TickLaws.{before}
 use Rattle.controller.specs.Turns.{at-turn}
 use Rattle.controller.proofs.Kept.{Publishes, stands, fixed-last}
 use Rattle.controller.proofs.Numbers.{word-fits}
 use Rattle.controller.proofs.Seen.{alike-after, outputs-see}
-use Rattle.controller.proofs.TickLaws.{before, words-kept, tame, first-word}
+use Rattle.controller.proofs.TickLaws.{words-kept, tame, first-word}
 use Rattle.controller.proofs.Turns.{shown, last-shown, output-turn}
 
 -- ---- a command is an INTEGER16

@@ -1,6 +1,8 @@
 pub mod Commands
 pub mod Kept
+pub mod Made
 pub mod Numbers
+pub mod Off
 pub mod Reals
 pub mod Saw
 pub mod Seen

@@ -27,11 +27,13 @@ use Rattle.math.specs.Maths.{of-math, operand, operator, ends, mathSignal}
 use Rattle.table.specs.Tables.{of-table, eleven, tableSignal}
 use Rattle.controller.specs.Tick.{ticked}
 use Rattle.controller.specs.Saw.{operandSeen, Saw}
+use Rattle.controller.specs.TickLaws.{before}
 use Rattle.controller.specs.Turns.{at-turn, seen}
 use Rattle.controller.proofs.Numbers.{Rising}
 use Rattle.controller.proofs.Seen.{alike-after, sourced-by}
 use Rattle.controller.proofs.Turns.{run, flag, remembered, last-remembered, input-turn}
-use Rattle.controller.proofs.TickLaws.{before, sized, published-length, input-made, math-made, table-made, length-kept, tame, first-word}
+use Rattle.controller.proofs.Made.{published-length, input-made, math-made, table-made}
+use Rattle.controller.proofs.TickLaws.{sized, length-kept, tame, first-word}
 
 -- ---- an input's memory is read as it was kept
 
@@ -59,7 +61,7 @@ published-twice u a b c d e f kind n s = laid-length _ (kind + (n - 1)) s ∙ pu
 
 module _ (samples : List ℤ) (unit : List ℕ) where
   -- a word of the configuration at a turn and after the tick
-  config : (r : ℕ) → r ≤ 20 → (index sub : ℕ) → slot-of index sub < writable → entry (at-turn samples unit r) index sub ≡ entry (ticked samples unit) index sub
+  pub config : (r : ℕ) → r ≤ 20 → (index sub : ℕ) → slot-of index sub < writable → entry (at-turn samples unit r) index sub ≡ entry (ticked samples unit) index sub
   unfolding entry
   config r h index sub l = alike-after samples unit r h (slot-of index sub) (before l)
 
@@ -99,7 +101,7 @@ module _ (samples : List ℤ) (unit : List ℕ) where
     unfolding inputTurn sensed
     memory-saw =
         own-memory
-        ∙ memory-back _ k _ h (published-twice _ _ _ _ _ _ _ _ _ _ ∙ sized samples unit size k (inputs + k) (omega arith))
+        ∙ memory-back _ k _ h (published-twice _ _ _ _ _ _ _ _ _ _ ∙ sized samples unit size (inputs + k) (omega arith))
         ∙ rw (settings-saw, last-memory)
 
     input-saw : held (ticked samples unit) inputs (k + 1) ≡ signalOf (memory (ticked samples unit) (k + 1) .flagged) (process (settings (ticked samples unit) (k + 1)) (getD samples k (pos 0)))
@@ -142,7 +144,7 @@ module _ (samples : List ℤ) (unit : List ℕ) where
           config (maths + k) (omega arith) 0x4523 (k + 1) (omega (arith, array 0x4523 refl k h, counted)),
         )
 
-    math-saw : mathSignal (at-turn samples unit (maths + k)) (k + 1) ≡
+    pub math-saw : mathSignal (at-turn samples unit (maths + k)) (k + 1) ≡
         combined (switched (ticked samples unit) 0x4500 (k + 1))
         (operandSeen unit (ticked samples unit) k 1)
         (operator (ticked samples unit) (k + 1) 1)
@@ -184,7 +186,7 @@ module _ (samples : List ℤ) (unit : List ℕ) where
         ∙ alike-after samples unit (tables + k) r (from + i) (before {slot = from + i} (omega (arith, counted)))
         ∙ sym (getD-take 11 (drop from v) i 0 few ∙ getD-drop from v i 0))
 
-    table-saw : tableSignal (at-turn samples unit (tables + k)) (k + 1) ≡
+    pub table-saw : tableSignal (at-turn samples unit (tables + k)) (k + 1) ≡
         lookedUp (eleven (ticked samples unit) (of-table 0x3004 (k + 1))) (eleven (ticked samples unit) (of-table 0x3005 (k + 1))) (eleven (ticked samples unit) (of-table 0x3006 (k + 1)))
         (seen unit (ticked samples unit) (tables + k) (byte (ticked samples unit) (of-table 0x3000 (k + 1)) 0) (byte (ticked samples unit) (of-table 0x3001 (k + 1)) 0))
     unfolding tableSignal byte have

@@ -25,9 +25,10 @@ use Rattle.unit.specs.Extent.{extent}
 use Rattle.unit.specs.Sources.{sourced}
 use Rattle.unit.proofs.sources.SourceLaws.{names-nothing, received, constants, in-row}
 use Rattle.controller.specs.Tick.{ticked}
+use Rattle.controller.specs.TickLaws.{Unpublished, before, after}
 use Rattle.controller.specs.Turns.{at-turn, row-of, seen, Sourced-by}
 use Rattle.controller.proofs.Kept.{fixed-last}
-use Rattle.controller.proofs.TickLaws.{Unpublished, before, after, words-kept, tame}
+use Rattle.controller.proofs.TickLaws.{words-kept, tame}
 use Rattle.controller.proofs.Turns.{seen-by}
 
 ec-unpublished : (n : ℕ) → 0 < n → n ≤ 12 → Unpublished (slot-of 0x2500 n)

@@ -33,7 +33,8 @@ use Rattle.controller.specs.Turns.{turnOf, at-turn}
 use Rattle.controller.proofs.Kept.{Kept, Publishes, sampled, processed, calculated, looked-up, selected, passed-on, stands, fixed-last, Clear, joined, set-keeps, lay-keeps, publish-keeps}
 use Rattle.controller.proofs.Numbers.{Rising}
 use Rattle.controller.proofs.Seen.{logics-see}
-use Rattle.controller.proofs.TickLaws.{sized, input-made, math-made, table-made, logic-made, published-length}
+use Rattle.controller.proofs.Made.{published-length, input-made, math-made, table-made, logic-made}
+use Rattle.controller.proofs.TickLaws.{sized}
 use Rattle.controller.proofs.Turns.{shown, input-turn, math-turn, table-turn, logic-turn}
 
 -- ---- what a turn leaves of a word that it published
@@ -77,7 +78,7 @@ module _ (samples : List ℤ) (unit : List ℕ) (size : length unit ≡ unit-siz
       ∙ remembers p _ (k + 1) _ .word
       ∙ lay-keeps _ inputs (k + 1) _ (clear p inputs (k + 1)) .word
       ∙ publish-keeps (publish u 0x7100 (k + 1) (pattern16 sample)) 0x7130 (k + 1) (pattern16 (sensed (settings u (k + 1)) (memory u (k + 1)) sample .reads)) other .word
-      ∙ there p u (pattern16 sample) (sized samples unit size k (inputs + k) (omega arith))
+      ∙ there p u (pattern16 sample) (sized samples unit size (inputs + k) (omega arith))
 
   pub input-shown : k < 4 → entry (ticked samples unit) 0x7130 (k + 1) ≡ pattern16 (signals.whole (held (ticked samples unit) inputs (k + 1)))
   unfolding entry inputTurn publish sensed
@@ -87,7 +88,7 @@ module _ (samples : List ℤ) (unit : List ℕ) (size : length unit ≡ unit-siz
       by-turn p samples unit (omega arith) (input-turn samples k h)
       ∙ remembers p _ (k + 1) _ .word
       ∙ lay-keeps _ inputs (k + 1) _ (clear p inputs (k + 1)) .word
-      ∙ there p (publish u 0x7100 (k + 1) (pattern16 (getD samples k (pos 0)))) _ (published-length u 0x7100 (k + 1) _ ∙ sized samples unit size k (inputs + k) (omega arith))
+      ∙ there p (publish u 0x7100 (k + 1) (pattern16 (getD samples k (pos 0)))) _ (published-length u 0x7100 (k + 1) _ ∙ sized samples unit size (inputs + k) (omega arith))
       ∙ ap pattern16 (told _ _)
       ∙ ap (λ (s : Signal). pattern16 (signals.whole s)) (sym (input-made samples unit size k h))
 
@@ -97,7 +98,7 @@ module _ (samples : List ℤ) (unit : List ℕ) (size : length unit ≡ unit-siz
       let p = calculated k h in
       by-turn p samples unit (omega arith) (math-turn samples k h)
       ∙ lay-keeps _ maths (k + 1) _ (clear p maths (k + 1)) .word
-      ∙ there p (at-turn samples unit (maths + k)) _ (sized samples unit size k (maths + k) (omega arith))
+      ∙ there p (at-turn samples unit (maths + k)) _ (sized samples unit size (maths + k) (omega arith))
       ∙ ap (λ (s : Signal). numberOf (asReal s)) (sym (math-made samples unit size k h r))
 
   pub table-shown : k < 6 → entry (ticked samples unit) (of-table 0x3007 (k + 1)) 0 ≡ pattern16 (signals.whole (held (ticked samples unit) tables (k + 1)))
@@ -106,7 +107,7 @@ module _ (samples : List ℤ) (unit : List ℕ) (size : length unit ≡ unit-siz
       let p = looked-up k h in
       by-turn p samples unit (omega arith) (table-turn samples k h)
       ∙ lay-keeps _ tables (k + 1) _ (clear p tables (k + 1)) .word
-      ∙ there p (at-turn samples unit (tables + k)) _ (sized samples unit size k (tables + k) (omega arith))
+      ∙ there p (at-turn samples unit (tables + k)) _ (sized samples unit size (tables + k) (omega arith))
       ∙ ap (λ (s : Signal). pattern16 (signals.whole s)) (sym (table-made samples unit size k h))
 
   pub logic-shown : k < 2 → entry (ticked samples unit) 0x4020 (k + 1) ≡ pattern16 (signals.whole (held (ticked samples unit) logics (k + 1)))
@@ -116,10 +117,10 @@ module _ (samples : List ℤ) (unit : List ℕ) (size : length unit ≡ unit-siz
       let u = at-turn samples unit (logics + k) in
       by-turn p samples unit (omega arith) (logic-turn samples k h)
       ∙ lay-keeps _ logics (k + 1) _ (clear p logics (k + 1)) .word
-      ∙ there p (publish u 0x4010 (k + 1) (logic.chosen u (k + 1))) _ (published-length u 0x4010 (k + 1) _ ∙ sized samples unit size k (logics + k) (omega arith))
+      ∙ there p (publish u 0x4010 (k + 1) (logic.chosen u (k + 1))) _ (published-length u 0x4010 (k + 1) _ ∙ sized samples unit size (logics + k) (omega arith))
       ∙ ap (λ (s : Signal). pattern16 (signals.whole s)) (sym (logic-made samples unit size k h))
 
-  number-shown : k < 2 → entry (ticked samples unit) 0x4010 (k + 1) ≡ logic.chosen (at-turn samples unit (logics + k)) (k + 1)
+  pub number-shown : k < 2 → entry (ticked samples unit) 0x4010 (k + 1) ≡ logic.chosen (at-turn samples unit (logics + k)) (k + 1)
   unfolding entry logicTurn publish has
   number-shown h =
       let p = selected k h in
@@ -128,7 +129,7 @@ module _ (samples : List ℤ) (unit : List ℕ) (size : length unit ≡ unit-siz
       by-turn p samples unit (omega arith) (logic-turn samples k h)
       ∙ lay-keeps _ logics (k + 1) _ (clear p logics (k + 1)) .word
       ∙ publish-keeps (publish u 0x4010 (k + 1) (logic.chosen u (k + 1))) 0x4020 (k + 1) (pattern16 (signals.whole (sourced u 3 (logic.chosen u (k + 1))))) other .word
-      ∙ there p u _ (sized samples unit size k (logics + k) (omega arith))
+      ∙ there p u _ (sized samples unit size (logics + k) (omega arith))
 
   -- the tables have all been before
   pub logic-selects : k < 2 → held (ticked samples unit) logics (k + 1) ≡ sourced (ticked samples unit) 3 (entry (ticked samples unit) 0x4010 (k + 1))
