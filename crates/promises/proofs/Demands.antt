@@ -1,6 +1,6 @@
 -- The three demands are met.
 -- Assumes nothing.
-use Rattle.output.proofs.OutputLaws as OutputLaws
+use Rattle.dictionary.proofs.OneEach as OneEach
 use Rattle.promises.specs.Demands.{Demand-1, Demand-2, Demand-3}
 use Rattle.promises.proofs.Bench as Bench
 use Rattle.promises.proofs.FrameRefusals as FrameRefusals
@@ -9,8 +9,10 @@ use Rattle.promises.proofs.ImageRefusals as ImageRefusals
 use Rattle.promises.proofs.Restoring as Restoring
 use Rattle.promises.proofs.Running as Running
 use Rattle.promises.proofs.Ticking as Ticking
+use Rattle.controller.proofs.Off as Off
 use Rattle.promises.proofs.Trap as Trap
 use Rattle.controller.proofs.Seen as Seen
+use Rattle.controller.proofs.TickLaws as TickLaws
 use Rattle.controller.proofs.Turns as Turns
 use Rattle.promises.proofs.Serving as Serving
 
@@ -40,6 +42,11 @@ demand-2 =
     record {
       reads-back = Serving.reads-back;
       that-one-entry = Serving.that-one-entry;
+      names-apart = OneEach.names-apart;
+      slot-named = OneEach.slot-named;
+      slots-apart = OneEach.slots-apart;
+      flags-unwritten = TickLaws.flags-unwritten;
+      register-unwritten = TickLaws.register-unwritten;
       decided-by-configuration = Serving.decided-by-configuration;
       stays-valid = Serving.stays-valid;
       on-the-bench = Bench.on-the-bench;
@@ -49,9 +56,13 @@ demand-2 =
       sourced-by = Seen.sourced-by;
       no-nan = Ticking.no-nan;
       every-tick = Ticking.every-tick;
-      some-rule = OutputLaws.some-rule;
-      rules-1-to-6 = OutputLaws.rules-1-to-6;
-      rule-7 = OutputLaws.rule-7;
+      words-kept = TickLaws.words-kept;
+      register-told = TickLaws.register-told;
+      math-off = Off.math-off;
+      math-error = Off.math-error;
+      table-passes = Off.table-passes;
+      table-sentence = Ticking.table-sentence;
+      logic-off = Off.logic-off;
       saved-reads-back = Images.saved-reads-back;
       same-bytes-again = Images.same-bytes-again;
       one-configuration-each = Images.one-configuration-each;

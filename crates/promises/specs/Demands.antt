@@ -1,13 +1,15 @@
 -- The three demands, each one definition: its words, and beside them the statements that answer them.
 -- Assumes nothing.
-use Rattle.output.specs.Commanded.{Some-rule, Rules-1-to-6, Rule-7}
+use Rattle.dictionary.specs.OneEach.{Names-apart, Slot-named, Slots-apart}
 use Rattle.promises.specs.Bench.{On-the-bench}
 use Rattle.promises.specs.FrameRefusals.{Frames-meet-theirs, Codes-as-listed}
 use Rattle.promises.specs.Images.{Saved-reads-back, Same-bytes-again, Accepts-exactly, One-configuration-each, Refusals-write-nothing, One-outcome, Looked-up-as-it-stands}
 use Rattle.promises.specs.ImageRefusals.{Images-meet-theirs, One-to-seven, Told-to-C, Same-for-C, One-for-C, Number-tells-which}
 use Rattle.promises.specs.Restoring.{Always-fits, Count-is-difference, Equal-images, Each-accepted, Arrives, Shortest, Cut-anywhere, Taken-up-again, Turned-away-exactly, Own-image, Refused-lists-write-nothing, One-list}
 use Rattle.promises.specs.Running.{Only-the-fold, Always-sound}
-use Rattle.promises.specs.Ticking.{No-nan, Every-tick}
+use Rattle.promises.specs.Ticking.{No-nan, Table-sentence, Every-tick}
+use Rattle.controller.specs.Off.{Math-off, Math-error, Table-passes, Logic-off}
+use Rattle.controller.specs.TickLaws.{Words-kept, Register-told, Flags-unwritten, Register-unwritten}
 use Rattle.promises.specs.Trap.{Out-of-the-trap}
 use Rattle.controller.specs.Turns.{Seen-by, Sourced-by}
 use Rattle.promises.specs.Serving.{Untouched, First-eight-only, That-one-entry, Determined, Reads-back, Stays-valid, Decided-by-configuration}
@@ -49,6 +51,13 @@ pub record Demand-2 : Type 0 where
   pub reads-back : Reads-back
   -- "An accepted write changes that one entry"
   pub that-one-entry : That-one-entry
+  -- no two names share a slot, every slot has a name, and no two slots share one
+  pub names-apart : Names-apart
+  pub slot-named : Slot-named
+  pub slots-apart : Slots-apart
+  -- no write touches an input's flag or 1001h
+  pub flags-unwritten : Flags-unwritten
+  pub register-unwritten : Register-unwritten
   -- nothing but the configuration decides whether a configuration write is accepted
   pub decided-by-configuration : Decided-by-configuration
   -- no frame breaks a range or a chain
@@ -64,12 +73,18 @@ pub record Demand-2 : Type 0 where
   pub sourced-by : Sourced-by
   -- no block makes a NaN
   pub no-nan : No-nan
-  -- after every tick each block holds the signal that its turn made, and each output has the command of its rule
+  -- after every tick each block holds the signal that its turn made, and each output has the command of its rule: "So under rule 7 the command stays
+  -- between the two configured limits, and rules 1 to 6 name their value"
   pub every-tick : Every-tick
-  -- "So under rule 7 the command stays between the two configured limits, and rules 1 to 6 name their value": one of the seven applies
-  pub some-rule : Some-rule
-  pub rules-1-to-6 : Rules-1-to-6
-  pub rule-7 : Rule-7
+  -- a tick leaves the configuration, 2500h and 5010h:1-2, and 1001h tells of the flags
+  pub words-kept : Words-kept
+  pub register-told : Register-told
+  -- a block that is off, or whose inputs are missing or in error, and a table's curve
+  pub math-off : Math-off
+  pub math-error : Math-error
+  pub table-passes : Table-passes
+  pub table-sentence : Table-sentence
+  pub logic-off : Logic-off
   -- "An image written from a controller reads back as that configuration"
   pub saved-reads-back : Saved-reads-back
   -- "one that is read and written again has the same bytes"

@@ -17,7 +17,8 @@ use Rattle.unit.specs.Held.{inputs, maths, tables, logics, held}
 use Rattle.unit.specs.Sources.{sourced}
 use Rattle.input.specs.Inputs.{settings, memory}
 use Rattle.math.specs.Maths.{mathSignal}
-use Rattle.table.specs.Tables.{tableSignal}
+use Rattle.table.specs.Sentence.{Sentence}
+use Rattle.table.specs.Tables.{of-table, eleven, tableSignal}
 use Rattle.logic.specs.Logics.{chosen}
 use Rattle.controller.specs.Tick.{ticked}
 use Rattle.controller.specs.Commands.{Commanded}
@@ -36,6 +37,12 @@ pub data Makes (unit : List ℕ) : Signal → Type 0 where
 -- no block makes a NaN
 abbrev pub No-nan : Type 0
 No-nan = (unit : List ℕ) → Valid unit → (signal : Signal) → Makes unit signal → (x : Float) → signal ≡ Real x → isNan x ≡ false
+
+-- "x <= X1 gives Y1; x > Xm gives Ym; else .." the interval before the least i: 30z5h is in order in every unit whose chains hold
+abbrev pub Table-sentence : Type 0
+Table-sentence =
+    (unit : List ℕ) → Valid unit → (k : ℕ) → k < 6 → (x : ℤ)
+    → Sentence (eleven unit (of-table 0x3004 (k + 1))) (eleven unit (of-table 0x3005 (k + 1))) (eleven unit (of-table 0x3006 (k + 1))) x
 
 -- after a tick every block holds the signal that its own turn made
 pub record Made (samples : List ℤ) (before after : List ℕ) : Type 0 where
