@@ -26,9 +26,9 @@ use Rattle.input.specs.Inputs.{settings, memory, remember, inputTurn}
 use Rattle.math.specs.Maths.{of-math, operand, operator, ends, mathSignal}
 use Rattle.table.specs.Tables.{of-table, eleven, tableSignal}
 use Rattle.controller.specs.Tick.{ticked}
-use Rattle.controller.specs.Saw.{operandSeen, Saw}
+use Rattle.controller.specs.Saw.{Saw}
 use Rattle.controller.specs.TickLaws.{before}
-use Rattle.controller.specs.Turns.{at-turn, seen}
+use Rattle.controller.specs.Turns.{at-turn, seen, operandSeen}
 use Rattle.controller.proofs.Numbers.{Rising}
 use Rattle.controller.proofs.Seen.{alike-after, sourced-by}
 use Rattle.controller.proofs.Turns.{run, flag, remembered, last-remembered, input-turn}

@@ -13,9 +13,8 @@ use Rattle.signals.specs.declared.signal.Signal.the-variants.{Error, Absent}
 use Rattle.unit.specs.Entry.{entry, byte, switched}
 use Rattle.unit.specs.Held.{maths, tables, logics, held}
 use Rattle.table.specs.Tables.{of-table}
-use Rattle.controller.specs.Saw.{operandSeen}
 use Rattle.controller.specs.Tick.{ticked}
-use Rattle.controller.specs.Turns.{seen}
+use Rattle.controller.specs.Turns.{seen, operandSeen}
 
 -- "Disabled, or input 1 not available: not available."
 abbrev pub Math-off : Type 0

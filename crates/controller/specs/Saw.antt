@@ -5,27 +5,15 @@ use mathlib.Core.List.{List}
 use mathlib.Core.Path.{_≡_}
 use lib.IntN.{ℤ, pos}
 use lib.ListN.{getD}
-use Rattle.signals.specs.Signal.{asReal}
 use Rattle.input.specs.Input.{kept, process, signalOf}
 use Rattle.input.specs.Inputs.{settings, memory}
 use Rattle.math.specs.Math.{combined}
-use Rattle.math.specs.declared.Operand.{Operand}
 use Rattle.table.specs.Table.{lookedUp}
-use Rattle.unit.specs.Entry.{whole, byte, switched}
+use Rattle.unit.specs.Entry.{byte, switched}
 use Rattle.unit.specs.Held.{inputs, maths, tables, held}
-use Rattle.math.specs.Maths.{of-math, operator, ends}
+use Rattle.math.specs.Maths.{operator, ends}
 use Rattle.table.specs.Tables.{of-table, eleven}
-use Rattle.controller.specs.Turns.{seen}
-
--- input i of math k + 1
-unfoldable pub operandSeen : List ℕ → List ℕ → ℕ → ℕ → Operand
-operandSeen before after k i =
-    record {
-      signal = asReal (seen before after (maths + k) (byte after (of-math 0x4000 (k + 1)) i) (byte after (of-math 0x4001 (k + 1)) i));
-      from = whole after (of-math 0x4020 (k + 1)) i;
-      to = whole after (of-math 0x4022 (k + 1)) i;
-      gain = whole after (of-math 0x4040 (k + 1)) i;
-    }
+use Rattle.controller.specs.Turns.{seen, operandSeen}
 
 pub record Saw (samples : List ℤ) (before after : List ℕ) : Type 0 where
   pub remembered : (k : ℕ) → k < 4 → memory after (k + 1) ≡ kept (settings after (k + 1)) (memory before (k + 1)) (getD samples k (pos 0))

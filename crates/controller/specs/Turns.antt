@@ -8,12 +8,15 @@ use lib.Dec.{ltb}
 use lib.IntN.{ℤ, pos}
 use lib.ListN.{getD}
 use Rattle.numbers.specs.Choice.{first}
+use Rattle.signals.specs.Signal.{asReal}
 use Rattle.signals.specs.declared.signal.Signal.{Signal}
 use Rattle.unit.specs.Each.{each}
-use Rattle.unit.specs.Held.{blocks, at-row}
+use Rattle.unit.specs.Entry.{whole, byte}
+use Rattle.unit.specs.Held.{maths, blocks, at-row}
 use Rattle.unit.specs.Extent.{extent}
 use Rattle.unit.specs.Sources.{sourced}
-use Rattle.math.specs.Maths.{mathTurn}
+use Rattle.math.specs.Maths.{of-math, mathTurn}
+use Rattle.math.specs.declared.Operand.{Operand}
 use Rattle.table.specs.Tables.{tableTurn}
 use Rattle.logic.specs.Logics.{logicTurn}
 use Rattle.input.specs.Inputs.{inputTurn}
@@ -55,3 +58,13 @@ abbrev pub Sourced-by : Type 0
 Sourced-by =
     (samples : List ℤ) (unit : List ℕ) (r source number : ℕ) → r ≤ turns
     → sourced (at-turn samples unit r) source number ≡ seen unit (ticked samples unit) r source number
+
+-- input i of math k + 1, as the block sees it
+unfoldable pub operandSeen : List ℕ → List ℕ → ℕ → ℕ → Operand
+operandSeen before after k i =
+    record {
+      signal = asReal (seen before after (maths + k) (byte after (of-math 0x4000 (k + 1)) i) (byte after (of-math 0x4001 (k + 1)) i));
+      from = whole after (of-math 0x4020 (k + 1)) i;
+      to = whole after (of-math 0x4022 (k + 1)) i;
+      gain = whole after (of-math 0x4040 (k + 1)) i;
+    }
