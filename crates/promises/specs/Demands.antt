@@ -14,7 +14,9 @@ use Rattle.promises.specs.Trap.{Out-of-the-trap}
 use Rattle.controller.specs.Turns.{Seen-by, Sourced-by}
 use Rattle.promises.specs.Serving.{Untouched, First-eight-only, That-one-entry, Determined, Reads-back, Stays-valid, Decided-by-configuration}
 
--- "Every frame, image and sample is taken. .. Each call ends, and no caller has to look first": no public function has a `requires`, and the checker proves that each ends
+-- "1. Every frame, image and sample is taken. Bad input meets its listed refusal, and after a refusal the controller and the lent buffers hold what they
+-- held before, save for an abort frame where a reply is due. Each call ends, and no caller has to look first."
+-- That each is taken, ends and asks nothing of its caller is no statement here: no public function has a `requires`, and the checker proves that each ends.
 pub record Demand-1 : Type 0 where
   -- "Bad input meets its listed refusal": a frame the first row of the paper's table that applies, or it is good
   pub frames-meet-theirs : Frames-meet-theirs
@@ -46,6 +48,8 @@ pub record Demand-1 : Type 0 where
   -- and so of what C calls
   pub same-for-C : Same-for-C
 
+-- "2. Frames answer as DS-301 expedited transfer says. Inputs, math, tables, logic and outputs follow document 01 tick by tick, REAL32 to the bit. An image
+-- written from a controller reads back as that configuration, and one that is read and written again has the same bytes."
 pub record Demand-2 : Type 0 where
   -- "Frames answer as DS-301 expedited transfer says": what is written is read back, by its name
   pub reads-back : Reads-back
@@ -94,7 +98,10 @@ pub record Demand-2 : Type 0 where
   -- "The bytes of one record's value are handed on as they stand in the image"
   pub looked-up-as-it-stands : Looked-up-as-it-stands
 
--- "3. Take any two complete images whose values are in range and whose chains are ordered, and a buffer of 5,207 bytes."
+-- "3. Take any two complete images whose values are in range and whose chains are ordered, and a buffer of 5,207 bytes. The list we make from them, sent to a
+-- controller that holds the first while no other configuration write comes between, is accepted record by record and leaves the second. It is as short as any
+-- such list can be. Cut after any record, every entry holds its first or its second value. Given such a first image and buffer, a second one with the right
+-- count, all 611 records in place at their sizes and nothing after them is turned away exactly when no list of accepted writes could reach it."
 pub record Demand-3 : Type 0 where
   -- "The list we make from them": one is made, and fits
   pub always-fits : Always-fits
