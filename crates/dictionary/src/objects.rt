@@ -78,7 +78,7 @@ fn table_objects(table: usize, n: usize) -> Object
     requires { ⌜ (table < 6) × (n < 16) ⌝ }
     ensures { λ r. ⌜ Rows r (0x3010 + n + table * 16) ⌝ }
 {
-    let before = table * TABLE_ENTRIES;
+    let before = (table as u32 * TABLE_ENTRIES as u32) as usize;
     match n {
         0 => Object::Var(TABLE_SOURCE + before),
         1 => Object::Var(TABLE_NUMBER + before),
@@ -125,7 +125,7 @@ fn logic_settings(logic: usize, low: usize) -> Object
     requires { ⌜ (logic < 2) × (low < 256) ⌝ }
     ensures { λ r. ⌜ Rows r (0x4100 + low + logic * 256) ⌝ }
 {
-    let before = logic * LOGIC_ENTRIES;
+    let before = (logic as u32 * LOGIC_ENTRIES as u32) as usize;
     match low {
         0x01 => Object::Array(LOGIC_TABLE + before, 3),
         0x02 => Object::Array(LOGIC_OPERATOR + before, 3),
@@ -162,7 +162,7 @@ fn math_settings(math: usize, low: usize) -> Object
     requires { ⌜ (math < 4) × (low < 256) ⌝ }
     ensures { λ r. ⌜ Rows r (0x4600 + low + math * 256) ⌝ }
 {
-    let before = math * MATH_ENTRIES;
+    let before = (math as u32 * MATH_ENTRIES as u32) as usize;
     match low {
         0x00 => Object::Array(OPERAND_SOURCE + before, 4),
         0x01 => Object::Array(OPERAND_NUMBER + before, 4),

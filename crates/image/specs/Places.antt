@@ -1,15 +1,16 @@
--- What a number of the code's runs stands for: pairs of entries that must rise, by the places of their data in an image.
+-- What the code's runs stand for: pairs of entries that must rise, by the places of their data in an image.
 -- Assumes nothing.
-use Prim.Native.Nat.{ℕ, zero, suc, _+_, _/_, _%_}
+use Prim.Native.Nat.{ℕ, zero, suc, _+_}
 use mathlib.Core.Bool.{Bool, not}
 use mathlib.Core.List.{List, [], _∷_}
-use lib.Dec.{eqb, ltb}
+use lib.Dec.{ltb}
 use lib.IntN.{ℤ, pos}
 use lib.ListN.{length, take, drop}
 use Rattle.octets.specs.Little.{little}
 use Rattle.numbers.specs.Choice.{first}
 use Rattle.numbers.specs.Order.{below}
 use Rattle.numbers.specs.Signed.{signed16}
+use Rattle.image.specs.declared.reading.order.Run.{Run}
 
 pub record Pair : Type 0 where
   pub lower : ℕ
@@ -32,5 +33,5 @@ unfoldable pub run-from : ℕ → ℕ → Bool → ℕ → List Pair
 run-from lower upper strict zero = []
 run-from lower upper strict (suc n) = record { lower = lower; upper = upper; strict = strict } ∷ run-from (lower + 9) (upper + 9) strict n
 
-unfoldable pub run-of : ℕ → List Pair
-run-of run = run-from (run / 10000000) (run / 1000 % 10000) (eqb (run % 10) 1) (run / 10 % 100)
+unfoldable pub run-of : Run → List Pair
+run-of run = run-from (run .lower) (run .upper) (run .strict) (run .pairs)

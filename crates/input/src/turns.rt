@@ -71,7 +71,8 @@ fn remember(unit: &mut Unit, k: usize, memory: Memory)
 pub fn inputs(unit: &mut Unit, samples: [i16; 4])
     ensures { λ _. ⌜ now (unit .exit) ≡ each 4 (λ n. inputTurn (getD samples (n - 1) (pos 0)) n) (now (unit .entry)) ⌝ }
 {
-    for k in 0..4 {
+    for row in 0..4_u32 {
+        let k = row as usize;
         let sample = samples[k];
         let after = sense(settings_of(unit, k), memory(unit, k), sample);
         let signal = after.signal;

@@ -42,15 +42,18 @@ fn holds_at(unit: &Unit, k: usize, t: usize) -> bool
     requires { ⌜ (k < 2) × (t < 3) ⌝ }
     ensures { λ r. ⌜ r ≡ holdsOf (now (unit .entry)) (k + 1) (t + 1) ⌝ }
 {
-    let row = LOGIC_ENTRIES * k;
+    let row = (LOGIC_ENTRIES as u32 * k as u32) as usize;
     let operator = byte_at(unit, LOGIC_OPERATOR + row + t);
     if operator == 0 {
         return true;
     }
     let mut so = false;
-    for c in 0..3 {
-        let verdict = condition_at(unit, CONDITION + row + 15 * t + 5 * c);
-        so = gather(operator, c, so, verdict);
+    for c in 0..3_u32 {
+        let verdict = condition_at(
+            unit,
+            CONDITION + row + (15 * t as u32) as usize + (5 * c) as usize,
+        );
+        so = gather(operator, c as usize, so, verdict);
         if settles(operator, so) {
             return so;
         }
@@ -64,9 +67,10 @@ fn selected(unit: &Unit, k: usize) -> u8
     ensures { λ r. ⌜ r ≡ chosen (now (unit .entry)) (k + 1) ⌝ }
 {
     if switched_at(unit, LOGIC_ENABLE + k) {
-        for t in 0..3 {
-            if holds_at(unit, k, t) {
-                return byte_at(unit, LOGIC_TABLE + LOGIC_ENTRIES * k + t);
+        for t in 0..3_u32 {
+            if holds_at(unit, k, t as usize) {
+                let row = (LOGIC_ENTRIES as u32 * k as u32) as usize;
+                return byte_at(unit, LOGIC_TABLE + row + t as usize);
             }
         }
     }

@@ -37,7 +37,7 @@ fn operand(unit: &Unit, k: usize, i: usize) -> Operand
     requires { ⌜ (k < 4) × (i < 4) ⌝ }
     ensures { λ r. ⌜ r ≡ spec.operand (now (unit .entry)) (k + 1) (i + 1) ⌝ }
 {
-    let at = MATH_ENTRIES * k + i;
+    let at = (MATH_ENTRIES as u32 * k as u32) as usize + i;
     Operand {
         signal: as_real(look_up(
             unit,
@@ -66,9 +66,10 @@ fn combine(unit: &Unit, k: usize, one: Operand) -> Signal
     ensures { λ r. ⌜ r ≡ ended (spec.ends (now (unit .entry)) (k + 1)) (spec.joinedTo (now (unit .entry)) (k + 1) (started one) 3) ⌝ }
 {
     let mut fold = start(one);
-    for i in 1..4 {
-        let operator = byte_at(unit, MATH_OPERATOR + MATH_ENTRIES * k + i - 1);
-        fold = join(fold, operator, operand(unit, k, i));
+    for i in 1..4_u32 {
+        let row = (MATH_ENTRIES as u32 * k as u32) as usize;
+        let operator = byte_at(unit, MATH_OPERATOR + row + i as usize - 1);
+        fold = join(fold, operator, operand(unit, k, i as usize));
     }
     finish(fold, ends(unit, k))
 }
@@ -93,9 +94,9 @@ fn signal_of(unit: &Unit, k: usize) -> Signal
 pub fn maths(unit: &mut Unit)
     ensures { λ _. ⌜ now (unit .exit) ≡ each 4 mathTurn (now (unit .entry)) ⌝ }
 {
-    for k in 0..4 {
-        let signal = signal_of(unit, k);
-        unit[MATH_VALUE + k] = number_of(as_real(signal));
-        lay(unit, 4 + k, signal);
+    for k in 0..4_u32 {
+        let signal = signal_of(unit, k as usize);
+        unit[MATH_VALUE + k as usize] = number_of(as_real(signal));
+        lay(unit, 4 + k as usize, signal);
     }
 }

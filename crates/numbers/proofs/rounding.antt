@@ -1,3 +1,3 @@
-pub mod Doubling
+pub mod Digits
 pub mod Examples
 pub mod RealCases

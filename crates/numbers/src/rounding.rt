@@ -7,13 +7,18 @@ ghost use Rattle.numbers.specs.Line.{nearestSize};
 ghost use Rattle.numbers.specs.Nearest.{nearest16};
 use crate::signed::signed;
 
-// Twice the value is exact, so its whole part t is known; (t + 1) / 2 takes a half upward.
+// A REAL32 above zero is, by its bits, an exponent x and 23 digits behind a leading one: digits / 2^(150 - x). From one half on,
+// the digits are cut to halves, 2^(149 - x) of them to each, and one half more takes a half upward.
 fn size(y: f32) -> u32
     requires { ⌜ T (positive y) × (num y ≤ 32768 * den y) ⌝ }
     ensures { λ r. ⌜ r ≡ nearestSize (num y) (den y) ⌝ }
 {
-    let t = std::num::truncating_f32_to_u64(y * 2.0);
-    ((t + 1) / 2) as u32
+    let bits = f32::to_bits(y);
+    if bits < 0x3F00_0000 {
+        return 0;
+    }
+    let digits = bits % 0x80_0000 + 0x80_0000;
+    ((digits >> (149 - bits / 0x80_0000)) + 1) / 2
 }
 
 // Zero of either sign and what is no number pass every test.

@@ -129,7 +129,7 @@ fn command_of(unit: &Unit, k: usize) -> i16
 pub fn outputs(unit: &mut Unit)
     ensures { λ _. ⌜ now (unit .exit) ≡ each 4 outputTurn (now (unit .entry)) ⌝ }
 {
-    for k in 0..4 {
-        unit[COMMAND + k] = pattern(command_of(unit, k));
+    for k in 0..4_u32 {
+        unit[COMMAND + k as usize] = pattern(command_of(unit, k as usize));
     }
 }

@@ -40,7 +40,7 @@ fn signal_of(unit: &Unit, k: usize) -> Signal
     requires { ⌜ k < 6 ⌝ }
     ensures { λ r. ⌜ r ≡ tableSignal (now (unit .entry)) (k + 1) ⌝ }
 {
-    let row = TABLE_ENTRIES * k;
+    let row = (TABLE_ENTRIES as u32 * k as u32) as usize;
     let signal = look_up(
         unit,
         byte_at(unit, TABLE_SOURCE + row),
@@ -58,9 +58,9 @@ fn signal_of(unit: &Unit, k: usize) -> Signal
 pub fn tables(unit: &mut Unit)
     ensures { λ _. ⌜ now (unit .exit) ≡ each 6 tableTurn (now (unit .entry)) ⌝ }
 {
-    for k in 0..6 {
-        let signal = signal_of(unit, k);
-        unit[TABLE_VALUE + k] = pattern(as_whole(signal));
-        lay(unit, 8 + k, signal);
+    for k in 0..6_u32 {
+        let signal = signal_of(unit, k as usize);
+        unit[TABLE_VALUE + k as usize] = pattern(as_whole(signal));
+        lay(unit, 8 + k as usize, signal);
     }
 }

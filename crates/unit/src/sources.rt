@@ -15,17 +15,17 @@ use dictionary::slots::Unit;
 use signals::keeping::real_of;
 use signals::signal::Signal;
 
-// What a source has, as one number that is looked up once: where its signals begin in the row of blocks, times 16, and how many it has.
+// What a kind of block has, as one number that is looked up once: where its signals begin in the row of blocks, times 16, and how many it
+// has. Received values and constants are no blocks.
 fn extent(source: u8) -> usize
+    requires { ⌜ (source ≡ 1 → ⊥) × (source ≡ 6 → ⊥) ⌝ }
     ensures { λ r. ⌜ r ≡ extent source ⌝ }
 {
     match source {
-        1 => 12,
         2 => 16 * 0 + 4,
         3 => 16 * 8 + 6,
         4 => 16 * 14 + 2,
         5 => 16 * 4 + 4,
-        6 => 15,
         _ => 0,
     }
 }
@@ -41,23 +41,29 @@ fn constant(unit: &Unit, number: usize) -> f32
     real_of(unit[CONSTANT + number - 3])
 }
 
-// One test of the number serves all sources, so that the whole is small enough to be inlined wherever it is asked.
+// The source is told apart once, and one arm serves all blocks, so that the whole is small enough to be inlined wherever it is asked.
 pub fn look_up(unit: &Unit, source: u8, number: u8) -> Signal
     ensures { λ r. ⌜ r ≡ sourced (now (unit .entry)) source number ⌝ }
 {
     if number == 0 {
         return Signal::Absent;
     }
-    let has = extent(source);
     let n = number as usize;
-    if has % 16 < n {
-        return Signal::Absent;
-    }
     if source == 1 {
+        if 12 < n {
+            return Signal::Absent;
+        }
         return Signal::Whole(whole_at(unit, EC_VALUE + n - 1));
     }
     if source == 6 {
+        if 15 < n {
+            return Signal::Absent;
+        }
         return Signal::Real(constant(unit, n));
+    }
+    let has = extent(source);
+    if has % 16 < n {
+        return Signal::Absent;
     }
     held(unit, has / 16 + n - 1)
 }

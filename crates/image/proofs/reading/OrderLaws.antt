@@ -19,6 +19,7 @@ use Rattle.octets.proofs.little.Parts.{placed, part}
 use Rattle.numbers.specs.Choice.{first, every}
 use Rattle.numbers.specs.Order.{below}
 use Rattle.numbers.specs.Signed.{signed16}
+use Rattle.image.specs.declared.reading.order.Run.{Run}
 use Rattle.image.specs.Places.{Pair, number-at, rising, rises, run-from, run-of}
 
 -- ---- one number
@@ -78,18 +79,18 @@ module _ (image : List ℕ) (lower upper : ℕ) (strict : Bool) (left : ℕ) {wh
 
 -- ---- all runs
 
-module _ (image runs : List ℕ) (at : ℕ) {whole : Bool} (inv : whole ≡ every (rises image) (flatMap run-of (drop at runs))) where
-  next-run : at < length runs → whole ≡ every (rises image) (run-of (getD runs at 0)) && every (rises image) (flatMap run-of (drop (at + 1) runs))
+module _ (image : List ℕ) (runs : List Run) (none : Run) (at : ℕ) {whole : Bool} (inv : whole ≡ every (rises image) (flatMap run-of (drop at runs))) where
+  next-run : at < length runs → whole ≡ every (rises image) (run-of (getD runs at none)) && every (rises image) (flatMap run-of (drop (at + 1) runs))
   unfolding flatMap
   next-run h =
       let next : at + 1 ≡ suc at = omega arith in
-      rw next (inv ∙ ap (λ (l : List ℕ). every (rises image) (flatMap run-of l)) (drop-cons runs at 0 h)
-      ∙ every-append (rises image) (run-of (getD runs at 0)) (flatMap run-of (drop (suc at) runs)))
+      rw next (inv ∙ ap (λ (l : List Run). every (rises image) (flatMap run-of l)) (drop-cons runs at none h)
+      ∙ every-append (rises image) (run-of (getD runs at none)) (flatMap run-of (drop (suc at) runs)))
 
-  pub runs-broken : at < length runs → {b : Bool} → b ≡ every (rises image) (run-of (getD runs at 0)) → b ≡ false → false ≡ whole
+  pub runs-broken : at < length runs → {b : Bool} → b ≡ every (rises image) (run-of (getD runs at none)) → b ≡ false → false ≡ whole
   runs-broken h e f = sym (next-run h ∙ rw (← e, f))
 
-  pub runs-on : at < length runs → {b : Bool} → b ≡ every (rises image) (run-of (getD runs at 0)) → b ≡ true → whole ≡ every (rises image) (flatMap run-of (drop (at + 1) runs))
+  pub runs-on : at < length runs → {b : Bool} → b ≡ every (rises image) (run-of (getD runs at none)) → b ≡ true → whole ≡ every (rises image) (flatMap run-of (drop (at + 1) runs))
   runs-on h e f = next-run h ∙ rw (← e, f)
 
   pub runs-done : length runs ≤ at → true ≡ whole

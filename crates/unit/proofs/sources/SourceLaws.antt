@@ -32,6 +32,14 @@ nothing-among count number v (inr h) = rw (ne-eqb number 0 (λ e. omega arith), 
 
 -- ---- what a source has and what it names are chosen by the same tests
 
+pub twelve-received : (source : ℕ) → source ≡ 1 → extent source % 16 ≡ 12
+unfolding extent first
+twelve-received source e = rw e
+
+pub fifteen-constants : (source : ℕ) → source ≡ 6 → extent source % 16 ≡ 15
+unfolding extent first
+fifteen-constants source e = rw e
+
 both : (R : ℕ → Signal → Type 0) (b : Bool) {n m : ℕ} {v w : Signal} → (b ≡ true → R n v) → R m w → R (first b n m) (first b v w)
 unfolding first
 both R true here there = here refl

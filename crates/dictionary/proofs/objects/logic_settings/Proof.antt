@@ -10,17 +10,17 @@ use Rattle.dictionary.proofs.objects.Families.{in-block, not-in-block, 
 use Rattle.dictionary.proofs.objects.logic_settings.Statement.{statement}
 use Rattle.dictionary.proofs.objects.logic_settings.Tie as tie
 
+cast-before : tie.Need-cast-before
+cast-before c = search needs
+
+cast-before-2 : tie.Need-cast-before-2
+cast-before-2 c = search needs
+
 mul-before : tie.Need-mul-before
 mul-before c = search needs
 
-add-t5 : tie.Need-add-t5
-add-t5 c = search needs
-
-add-t6 : tie.Need-add-t6
-add-t6 c = search needs
-
-add-t7 : tie.Need-add-t7
-add-t7 c = search needs
+cast-before-3 : tie.Need-cast-before-3
+cast-before-3 c = search needs
 
 add-t8 : tie.Need-add-t8
 add-t8 c = search needs
@@ -69,6 +69,15 @@ add-t22 c = search needs
 
 add-t23 : tie.Need-add-t23
 add-t23 c = search needs
+
+add-t24 : tie.Need-add-t24
+add-t24 c = search needs
+
+add-t25 : tie.Need-add-t25
+add-t25 c = search needs
+
+add-t26 : tie.Need-add-t26
+add-t26 c = search needs
 
 returns : tie.Need-returns
 unfolding stretches with-index meant shifted writable slot-of first
@@ -122,10 +131,10 @@ pub logic-settings-spec : {M : Type 1} → statement M
 logic-settings-spec =
     tie.close
     (tie.spec
+    cast-before
+    cast-before-2
     mul-before
-    add-t5
-    add-t6
-    add-t7
+    cast-before-3
     add-t8
     add-t9
     add-t10
@@ -142,6 +151,9 @@ logic-settings-spec =
     add-t21
     add-t22
     add-t23
+    add-t24
+    add-t25
+    add-t26
     returns
     returns-2
     returns-3

@@ -10,17 +10,17 @@ use Rattle.dictionary.proofs.objects.Families.{in-block, not-in-block, 
 use Rattle.dictionary.proofs.objects.table_objects.Statement.{statement}
 use Rattle.dictionary.proofs.objects.table_objects.Tie as tie
 
+cast-before : tie.Need-cast-before
+cast-before c = search needs
+
+cast-before-2 : tie.Need-cast-before-2
+cast-before-2 c = search needs
+
 mul-before : tie.Need-mul-before
 mul-before c = search needs
 
-add-t5 : tie.Need-add-t5
-add-t5 c = search needs
-
-add-t6 : tie.Need-add-t6
-add-t6 c = search needs
-
-add-t7 : tie.Need-add-t7
-add-t7 c = search needs
+cast-before-3 : tie.Need-cast-before-3
+cast-before-3 c = search needs
 
 add-t8 : tie.Need-add-t8
 add-t8 c = search needs
@@ -36,6 +36,15 @@ add-t11 c = search needs
 
 add-t12 : tie.Need-add-t12
 add-t12 c = search needs
+
+add-t13 : tie.Need-add-t13
+add-t13 c = search needs
+
+add-t14 : tie.Need-add-t14
+add-t14 c = search needs
+
+add-t15 : tie.Need-add-t15
+add-t15 c = search needs
 
 returns : tie.Need-returns
 unfolding stretches with-index meant shifted writable slot-of first
@@ -77,15 +86,18 @@ pub table-objects-spec : {M : Type 1} → statement M
 table-objects-spec =
     tie.close
     (tie.spec
+    cast-before
+    cast-before-2
     mul-before
-    add-t5
-    add-t6
-    add-t7
+    cast-before-3
     add-t8
     add-t9
     add-t10
     add-t11
     add-t12
+    add-t13
+    add-t14
+    add-t15
     returns
     returns-2
     returns-3

@@ -26,9 +26,21 @@ Inv-loop unit₀ samples k₀ unit k = (k ≤ 4) × (unit ≡ each k (λ n. inpu
 abbrev μ-loop : tie.MeasureT-loop
 μ-loop unit₀ samples k₀ unit k = 4 - k
 
+-- what the input makes of its sample
+after : (s : tie.After-sense Inv-loop μ-loop) → let at = s .before .before .before .before .before .before .before in
+    let u = at .loop .unit in
+    let k = at .loop .row in
+    s .sense .result ≡ sensed (settings u (k + 1)) (memory u (k + 1)) (getD (at .before .args .t2) k (pos 0))
+after s = let at = s .before .before .before .before .before .before .before in
+    let given : SFits w16 (getD (at .before .args .t2) (at .loop .row) (pos 0)) = search needs in
+    rw (← s .before .memory .ensures, ← s .before .before .before .settings-of .ensures) (s .sense .ensures ∙ rw (toZ-ofZ given))
+
 loop-holds : tie.Need-loop-holds Inv-loop μ-loop
 unfolding each
 loop-holds c = (omega arith, refl)
+
+cast-k : tie.Need-cast-k Inv-loop μ-loop
+cast-k c = search needs
 
 mul-sample : tie.Need-mul-sample Inv-loop μ-loop
 mul-sample c = search needs
@@ -75,26 +87,17 @@ lay-requires c κs = search needs
 remember-requires : tie.Need-remember-requires Inv-loop μ-loop
 remember-requires c κs = search needs
 
-add-k : tie.Need-add-k Inv-loop μ-loop
-add-k c = search needs
+add-row : tie.Need-add-row Inv-loop μ-loop
+add-row c = search needs
 
 loop-less : tie.Need-loop-less Inv-loop μ-loop
 loop-less c = search needs
-
--- what the input makes of its sample
-after : (s : tie.After-sense Inv-loop μ-loop) → let at = s .before .before .before .before .before .before .before in
-    let u = at .loop .unit in
-    let k = at .loop .k in
-    s .sense .result ≡ sensed (settings u (k + 1)) (memory u (k + 1)) (getD (at .before .args .t2) k (pos 0))
-after s = let at = s .before .before .before .before .before .before .before in
-    let given : SFits w16 (getD (at .before .args .t2) (at .loop .k) (pos 0)) = search needs in
-    rw (← s .before .memory .ensures, ← s .before .before .before .settings-of .ensures) (s .sense .ensures ∙ rw (toZ-ofZ given))
 
 loop-again : tie.Need-loop-again Inv-loop μ-loop
 unfolding inputTurn publish lay has
 loop-again c = let s = c .before .before .before .before .before .before .before .before in
     let at = s .before .before .before .before .before .before .before in
-    let k = at .loop .k in
+    let k = at .loop .row in
     let samples = at .before .args .t2 in
     let e : k + 1 - 1 ≡ k = omega arith in
     let h : k < 4 = omega arith in
@@ -119,7 +122,7 @@ loop-again c = let s = c .before .before .before .before .before .before .before
     )
 
 returns : tie.Need-returns Inv-loop μ-loop
-returns c = done (λ n. inputTurn (getD (c .before .before .args .t2) (n - 1) (pos 0)) n) _ (c .before .loop .k) 4 (omega arith) (c .before .loop .inv .1)
+returns c = done (λ n. inputTurn (getD (c .before .before .args .t2) (n - 1) (pos 0)) n) _ (c .before .loop .row) 4 (omega arith) (c .before .loop .inv .1)
 
 pub inputs-spec : {M : Type 1} → statement M
 inputs-spec =
@@ -128,6 +131,7 @@ inputs-spec =
     Inv-loop
     μ-loop
     loop-holds
+    cast-k
     mul-sample
     array-copy-out-sample
     settings-of-requires
@@ -143,7 +147,7 @@ inputs-spec =
     element-write-unit-2
     lay-requires
     remember-requires
-    add-k
+    add-row
     loop-less
     loop-again
     returns)

@@ -42,8 +42,17 @@ so-far c =
       condition refl (a .k) (omega arith) (a .t) (omega arith) (at .loop .c) (omega arith),
     )
 
+cast-row : tie.Need-cast-row Inv-loop μ-loop
+cast-row c = search needs
+
+cast-row-2 : tie.Need-cast-row-2 Inv-loop μ-loop
+cast-row-2 c = search needs
+
 mul-row : tie.Need-mul-row Inv-loop μ-loop
 mul-row c = search needs
+
+cast-row-3 : tie.Need-cast-row-3 Inv-loop μ-loop
+cast-row-3 c = search needs
 
 add-byte-at : tie.Need-add-byte-at Inv-loop μ-loop
 add-byte-at c = search needs
@@ -67,8 +76,14 @@ loop-holds c = (omega arith, refl)
 add-condition-at : tie.Need-add-condition-at Inv-loop μ-loop
 add-condition-at c = search needs
 
+cast-condition-at : tie.Need-cast-condition-at Inv-loop μ-loop
+cast-condition-at c = search needs
+
 mul-condition-at : tie.Need-mul-condition-at Inv-loop μ-loop
 mul-condition-at c = search needs
+
+cast-condition-at-2 : tie.Need-cast-condition-at-2 Inv-loop μ-loop
+cast-condition-at-2 c = search needs
 
 add-condition-at-2 : tie.Need-add-condition-at-2 Inv-loop μ-loop
 add-condition-at-2 c = search needs
@@ -76,11 +91,17 @@ add-condition-at-2 c = search needs
 mul-condition-at-2 : tie.Need-mul-condition-at-2 Inv-loop μ-loop
 mul-condition-at-2 c = search needs
 
+cast-condition-at-3 : tie.Need-cast-condition-at-3 Inv-loop μ-loop
+cast-condition-at-3 c = search needs
+
 add-condition-at-3 : tie.Need-add-condition-at-3 Inv-loop μ-loop
 add-condition-at-3 c = search needs
 
 condition-at-requires : tie.Need-condition-at-requires Inv-loop μ-loop
 condition-at-requires c κs = search needs
+
+cast-gather : tie.Need-cast-gather Inv-loop μ-loop
+cast-gather c = search needs
 
 gather-requires : tie.Need-gather-requires Inv-loop μ-loop
 gather-requires c κs = search needs
@@ -117,18 +138,25 @@ holds-at-spec =
     (tie.spec
     Inv-loop
     μ-loop
+    cast-row
+    cast-row-2
     mul-row
+    cast-row-3
     add-byte-at
     add-byte-at-2
     byte-at-requires
     returns
     loop-holds
     add-condition-at
+    cast-condition-at
     mul-condition-at
+    cast-condition-at-2
     add-condition-at-2
     mul-condition-at-2
+    cast-condition-at-3
     add-condition-at-3
     condition-at-requires
+    cast-gather
     gather-requires
     settles-requires
     returns-2

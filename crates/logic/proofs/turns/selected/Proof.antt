@@ -36,14 +36,29 @@ switched-at-requires c κs = search needs
 loop-holds : tie.Need-loop-holds Inv-loop μ-loop
 loop-holds c = (omega arith, refl)
 
+cast-holds-at : tie.Need-cast-holds-at Inv-loop μ-loop
+cast-holds-at c = search needs
+
 holds-at-requires : tie.Need-holds-at-requires Inv-loop μ-loop
 holds-at-requires c κs = search needs
 
-mul-byte-at : tie.Need-mul-byte-at Inv-loop μ-loop
-mul-byte-at c = search needs
+cast-row : tie.Need-cast-row Inv-loop μ-loop
+cast-row c = search needs
+
+cast-row-2 : tie.Need-cast-row-2 Inv-loop μ-loop
+cast-row-2 c = search needs
+
+mul-row : tie.Need-mul-row Inv-loop μ-loop
+mul-row c = search needs
+
+cast-row-3 : tie.Need-cast-row-3 Inv-loop μ-loop
+cast-row-3 c = search needs
 
 add-byte-at : tie.Need-add-byte-at Inv-loop μ-loop
 add-byte-at c = search needs
+
+cast-byte-at : tie.Need-cast-byte-at Inv-loop μ-loop
+cast-byte-at c = search needs
 
 add-byte-at-2 : tie.Need-add-byte-at-2 Inv-loop μ-loop
 add-byte-at-2 c = search needs
@@ -90,9 +105,14 @@ selected-spec =
     add-switched-at
     switched-at-requires
     loop-holds
+    cast-holds-at
     holds-at-requires
-    mul-byte-at
+    cast-row
+    cast-row-2
+    mul-row
+    cast-row-3
     add-byte-at
+    cast-byte-at
     add-byte-at-2
     byte-at-requires
     returns

@@ -26,11 +26,23 @@ loop-holds : tie.Need-loop-holds Inv-loop μ-loop
 unfolding joinedTo
 loop-holds c = (omega arith, omega arith, refl)
 
-mul-byte-at : tie.Need-mul-byte-at Inv-loop μ-loop
-mul-byte-at c = search needs
+cast-row : tie.Need-cast-row Inv-loop μ-loop
+cast-row c = search needs
+
+cast-row-2 : tie.Need-cast-row-2 Inv-loop μ-loop
+cast-row-2 c = search needs
+
+mul-row : tie.Need-mul-row Inv-loop μ-loop
+mul-row c = search needs
+
+cast-row-3 : tie.Need-cast-row-3 Inv-loop μ-loop
+cast-row-3 c = search needs
 
 add-byte-at : tie.Need-add-byte-at Inv-loop μ-loop
 add-byte-at c = search needs
+
+cast-byte-at : tie.Need-cast-byte-at Inv-loop μ-loop
+cast-byte-at c = search needs
 
 add-byte-at-2 : tie.Need-add-byte-at-2 Inv-loop μ-loop
 add-byte-at-2 c = search needs
@@ -40,6 +52,9 @@ sub-byte-at c = search needs
 
 byte-at-requires : tie.Need-byte-at-requires Inv-loop μ-loop
 byte-at-requires c κs = search needs
+
+cast-operand : tie.Need-cast-operand Inv-loop μ-loop
+cast-operand c = search needs
 
 operand-requires : tie.Need-operand-requires Inv-loop μ-loop
 operand-requires c κs = search needs
@@ -92,11 +107,16 @@ combine-spec =
     μ-loop
     start-requires
     loop-holds
-    mul-byte-at
+    cast-row
+    cast-row-2
+    mul-row
+    cast-row-3
     add-byte-at
+    cast-byte-at
     add-byte-at-2
     sub-byte-at
     byte-at-requires
+    cast-operand
     operand-requires
     join-requires
     add-i

@@ -23,6 +23,9 @@ loop-holds : tie.Need-loop-holds Inv-loop μ-loop
 unfolding each
 loop-holds c = (omega arith, refl)
 
+cast-signal-of : tie.Need-cast-signal-of Inv-loop μ-loop
+cast-signal-of c = search needs
+
 signal-of-requires : tie.Need-signal-of-requires Inv-loop μ-loop
 signal-of-requires c κs = search needs
 
@@ -32,6 +35,9 @@ as-real-requires c κs = search needs
 number-of-requires : tie.Need-number-of-requires Inv-loop μ-loop
 number-of-requires c κs = search needs
 
+cast-unit : tie.Need-cast-unit Inv-loop μ-loop
+cast-unit c = search needs
+
 add-unit : tie.Need-add-unit Inv-loop μ-loop
 add-unit c = search needs
 
@@ -40,6 +46,9 @@ mul-unit c = search needs
 
 element-write-unit : tie.Need-element-write-unit Inv-loop μ-loop
 element-write-unit c = search needs
+
+cast-lay : tie.Need-cast-lay Inv-loop μ-loop
+cast-lay c = search needs
 
 add-lay : tie.Need-add-lay Inv-loop μ-loop
 add-lay c = search needs
@@ -71,12 +80,15 @@ maths-spec =
     Inv-loop
     μ-loop
     loop-holds
+    cast-signal-of
     signal-of-requires
     as-real-requires
     number-of-requires
+    cast-unit
     add-unit
     mul-unit
     element-write-unit
+    cast-lay
     add-lay
     lay-requires
     add-k

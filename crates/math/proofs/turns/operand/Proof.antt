@@ -10,8 +10,17 @@ use borrow.Author.Needs.{needs}
 use Rattle.math.proofs.turns.operand.Statement.{statement}
 use Rattle.math.proofs.turns.operand.Tie as tie
 
+cast-at : tie.Need-cast-at
+cast-at c = search needs
+
+cast-at-2 : tie.Need-cast-at-2
+cast-at-2 c = search needs
+
 mul-at : tie.Need-mul-at
 mul-at c = search needs
+
+cast-at-3 : tie.Need-cast-at-3
+cast-at-3 c = search needs
 
 add-at : tie.Need-add-at
 add-at c = search needs
@@ -77,7 +86,10 @@ pub operand-spec : {M : Type 1} → statement M
 operand-spec =
     tie.close
     (tie.spec
+    cast-at
+    cast-at-2
     mul-at
+    cast-at-3
     add-at
     add-byte-at
     byte-at-requires

@@ -1,41 +1,34 @@
--- The size of a REAL32, rounded: twice it is exact, and (t + 1) / 2 of its whole part t takes a half upward.
+-- The size of a REAL32, rounded, by its exponent and digits (`Digits`).
 -- Assumes nothing.
-use Prim.Native.Nat.{_*_, _/_, _≤_, _<_}
-use mathlib.Core.Bool.{false}
-use mathlib.Core.Path.{_≡_, _∙_}
-use native.Mathlib.Omega.{arith}
+use Prim.Native.Nat.{_+_, _-_, _/_, _%_}
 use borrow.Author.Needs.{needs}
-use lib.Ieee.{binary32, mul, ofBits}
-use lib.Ieee.Exact.{HasValue}
-use lib.Ieee.Positive.{num, den, den-pos}
-use Rattle.numbers.proofs.rounding.Doubling.{doubled, above, under, cut, at-most, halves}
+use native.Mathlib.Omega.{arith}
+use lib.Ieee.{binary32, toBits}
+use lib.Pow.{shr-le}
+use Rattle.numbers.proofs.rounding.Digits.{is-number, under-half, in-reach, from-half}
 use Rattle.numbers.proofs.rounding.size.Statement.{statement}
 use Rattle.numbers.proofs.rounding.size.Tie as tie
 
-value : (c : tie.Start) → HasValue (mul binary32 (c .args .y) (ofBits binary32 0x4000_0000)) false (num (c .args .y) * 2) (den (c .args .y))
-value c = doubled (c .args .y) (c .pre .0) (search needs) (c .pre .1)
-
-bound : (c : tie.Start) → num (c .args .y) * 2 ≤ 65536 * den (c .args .y)
-bound c = omega (arith, c .pre .1)
-
-truncating-f32-to-u64-requires : tie.Need-truncating-f32-to-u64-requires
-truncating-f32-to-u64-requires c κs =
-    (above (den-pos (c .args .y)) (bound c) _ (value c), under (den-pos (c .args .y)) (bound c) _ (value c))
-
-whole-part : (c : tie.After-truncating-f32-to-u64) → c .truncating-f32-to-u64 .result ≡ num (c .before .args .y) * 2 / den (c .before .args .y)
-whole-part c = c .truncating-f32-to-u64 .ensures ∙ cut (den-pos (c .before .args .y)) (bound (c .before)) _ (value (c .before))
-
-small : (c : tie.After-truncating-f32-to-u64) → c .truncating-f32-to-u64 .result < 65537
-small c = rw (whole-part c) (at-most (den-pos (c .before .args .y)) (bound (c .before)))
-
-add-result : tie.Need-add-result
-add-result c = record { fits = omega (arith, small c) }
-
-cast-result : tie.Need-cast-result
-cast-result c = record { fits = omega (arith, small c) }
+float-to-bits-bits : tie.Need-float-to-bits-bits
+float-to-bits-bits c = is-number (c .args .y) (c .pre .0)
 
 returns : tie.Need-returns
-returns c = rw (whole-part c) (halves (num (c .before .args .y)) (den (c .before .args .y)) (den-pos (c .before .args .y)))
+returns c = under-half (c .before .args .y) (c .before .pre .0) (search needs) (c .if1 .taken)
+
+add-digits : tie.Need-add-digits
+add-digits c = search needs
+
+sub-result : tie.Need-sub-result
+sub-result c = in-reach (c .before .args .y) (c .before .pre .0) (search needs) (c .before .pre .1)
+
+shr-result : tie.Need-shr-result
+shr-result c = search needs
+
+add-result : tie.Need-add-result
+add-result c = omega (arith, shr-le (toBits binary32 (c .before .args .y) % 0x80_0000 + 0x80_0000) (149 - toBits binary32 (c .before .args .y) / 0x80_0000))
+
+returns-2 : tie.Need-returns-2
+returns-2 c = from-half (c .before .args .y) (c .before .pre .0) (search needs) (c .if1 .left) (c .before .pre .1)
 
 pub size-spec : {M : Type 1} → statement M
-size-spec = tie.close (tie.spec truncating-f32-to-u64-requires add-result cast-result returns)
+size-spec = tie.close (tie.spec float-to-bits-bits returns add-digits sub-result shr-result add-result returns-2)

@@ -23,11 +23,17 @@ loop-holds : tie.Need-loop-holds Inv-loop μ-loop
 unfolding each
 loop-holds c = (omega arith, refl)
 
+cast-command-of : tie.Need-cast-command-of Inv-loop μ-loop
+cast-command-of c = search needs
+
 command-of-requires : tie.Need-command-of-requires Inv-loop μ-loop
 command-of-requires c κs = search needs
 
 pattern-requires : tie.Need-pattern-requires Inv-loop μ-loop
 pattern-requires c κs = search needs
+
+cast-unit : tie.Need-cast-unit Inv-loop μ-loop
+cast-unit c = search needs
 
 add-unit : tie.Need-add-unit Inv-loop μ-loop
 add-unit c = search needs
@@ -69,8 +75,10 @@ outputs-spec =
     Inv-loop
     μ-loop
     loop-holds
+    cast-command-of
     command-of-requires
     pattern-requires
+    cast-unit
     add-unit
     mul-unit
     element-write-unit

@@ -9,8 +9,17 @@ use borrow.Author.Needs.{needs}
 use Rattle.table.proofs.turns.signal_of.Statement.{statement}
 use Rattle.table.proofs.turns.signal_of.Tie as tie
 
+cast-row : tie.Need-cast-row
+cast-row c = search needs
+
+cast-row-2 : tie.Need-cast-row-2
+cast-row-2 c = search needs
+
 mul-row : tie.Need-mul-row
 mul-row c = search needs
+
+cast-row-3 : tie.Need-cast-row-3
+cast-row-3 c = search needs
 
 add-byte-at : tie.Need-add-byte-at
 add-byte-at c = search needs
@@ -59,7 +68,10 @@ pub signal-of-spec : {M : Type 1} → statement M
 signal-of-spec =
     tie.close
     (tie.spec
+    cast-row
+    cast-row-2
     mul-row
+    cast-row-3
     add-byte-at
     byte-at-requires
     add-byte-at-2

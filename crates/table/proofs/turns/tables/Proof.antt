@@ -24,6 +24,9 @@ loop-holds : tie.Need-loop-holds Inv-loop μ-loop
 unfolding each
 loop-holds c = (omega arith, refl)
 
+cast-signal-of : tie.Need-cast-signal-of Inv-loop μ-loop
+cast-signal-of c = search needs
+
 signal-of-requires : tie.Need-signal-of-requires Inv-loop μ-loop
 signal-of-requires c κs = search needs
 
@@ -33,6 +36,9 @@ as-whole-requires c κs = search needs
 pattern-requires : tie.Need-pattern-requires Inv-loop μ-loop
 pattern-requires c κs = search needs
 
+cast-unit : tie.Need-cast-unit Inv-loop μ-loop
+cast-unit c = search needs
+
 add-unit : tie.Need-add-unit Inv-loop μ-loop
 add-unit c = search needs
 
@@ -41,6 +47,9 @@ mul-unit c = search needs
 
 element-write-unit : tie.Need-element-write-unit Inv-loop μ-loop
 element-write-unit c = search needs
+
+cast-lay : tie.Need-cast-lay Inv-loop μ-loop
+cast-lay c = search needs
 
 add-lay : tie.Need-add-lay Inv-loop μ-loop
 add-lay c = search needs
@@ -72,12 +81,15 @@ tables-spec =
     Inv-loop
     μ-loop
     loop-holds
+    cast-signal-of
     signal-of-requires
     as-whole-requires
     pattern-requires
+    cast-unit
     add-unit
     mul-unit
     element-write-unit
+    cast-lay
     add-lay
     lay-requires
     add-k

@@ -49,23 +49,16 @@ returns-4 c = rw (c .match .keys4)
 
 returns-5 : tie.Need-returns-5
 unfolding extent first
-returns-5 c = rw (c .match .keys5)
-
-returns-6 : tie.Need-returns-6
-unfolding extent first
-returns-6 c = rw (c .match .keys6)
-
-returns-7 : tie.Need-returns-7
-unfolding extent first
-returns-7 c = let other = c .match .rest in
+returns-5 c =
+    let other = c .match .rest in
     let n = c .before .args .source in
     rw (
-      ne-eqb n 1 (other .0 .0 .0 .0 .0 .1),
-      ne-eqb n 2 (other .0 .0 .0 .0 .1),
-      ne-eqb n 3 (other .0 .0 .0 .1),
-      ne-eqb n 4 (other .0 .0 .1),
-      ne-eqb n 5 (other .0 .1),
-      ne-eqb n 6 (other .1),
+      ne-eqb n 1 (c .before .pre .0),
+      ne-eqb n 2 (other .0 .0 .0 .1),
+      ne-eqb n 3 (other .0 .0 .1),
+      ne-eqb n 4 (other .0 .1),
+      ne-eqb n 5 (other .1),
+      ne-eqb n 6 (c .before .pre .1),
     )
 
 pub extent-spec : {M : Type 1} → statement M
@@ -84,6 +77,4 @@ extent-spec =
     returns-2
     returns-3
     returns-4
-    returns-5
-    returns-6
-    returns-7)
+    returns-5)

@@ -5,36 +5,27 @@ use mathlib.Core.Logic.{inl, inr}
 use mathlib.Core.Path.{refl, sym, ap, _∙_}
 use native.Mathlib.Omega.{arith}
 use Rattle.numbers.proofs.ExactLaws.{back}
-use Rattle.numbers.specs.Choice.{first}
 use Rattle.signals.specs.declared.signal.Signal.the-variants.{Whole, Real}
 use Rattle.unit.specs.Entry.{whole}
 use Rattle.unit.specs.Extent.{extent}
 use Rattle.unit.proofs.Slots.{has, array-sub}
-use Rattle.unit.proofs.sources.SourceLaws.{names-nothing, received, constants, in-row}
+use Rattle.unit.proofs.sources.SourceLaws.{twelve-received, fifteen-constants, names-nothing, received, constants, in-row}
 use borrow.Author.Needs.{needs}
 use Rattle.unit.proofs.sources.look_up.Statement.{statement}
 use Rattle.unit.proofs.sources.look_up.Tie as tie
 
--- past the tests on the number, the source has it
-low : (s : tie.Else2) → 0 < s .before .before .before .args .number
-low s = omega (arith, s .before .before .if1 .left)
-
-high : (s : tie.Else2) → s .before .before .before .args .number ≤ extent (s .before .before .before .args .source) % 16
-high s = rw (← s .before .extent .ensures) (s .if2 .left)
-
-twelve : (s : tie.Then3) → s .before .before .before .before .args .number ≤ 12
-unfolding extent first
-twelve s = rw (s .if3 .taken) at (high (s .before))
+-- past the test on number 0
+low : (s : tie.Else1) → 0 < s .before .args .number
+low s = omega (arith, s .if1 .left)
 
 returns : tie.Need-returns
-returns c = sym (names-nothing (c .before .args .unit .now) (c .before .args .source) (c .before .args .number) (inl (c .if1 .taken)))
-
-extent-requires : tie.Need-extent-requires
-extent-requires c κs = search needs
+returns c = let a = c .before .args in sym (names-nothing (a .unit .now) (a .source) (a .number) (inl (c .if1 .taken)))
 
 returns-2 : tie.Need-returns-2
-returns-2 c = let a = c .before .before .before .args in
-    sym (names-nothing (a .unit .now) (a .source) (a .number) (inr (rw (← c .before .extent .ensures) (c .if2 .taken))))
+returns-2 c =
+    let a = c .before .before .before .args in
+    let most = twelve-received (a .source) (c .before .if2 .taken) in
+    sym (names-nothing (a .unit .now) (a .source) (a .number) (inr (omega (arith, most, c .if3 .taken))))
 
 add-whole-at : tie.Need-add-whole-at
 add-whole-at c = search needs
@@ -47,18 +38,44 @@ whole-at-requires c κs = search needs
 
 returns-3 : tie.Need-returns-3
 unfolding whole has
-returns-3 c = let s = c .before .before in
+returns-3 c =
+    let s = c .before in
     let a = s .before .before .before .args in
-    rw (received (a .unit .now) (a .source) (a .number) (low s) (high s) (c .before .if3 .taken), array-sub 0x2500 refl (a .number) (low s) (twelve (c .before)))
+    let few = s .if3 .left in
+    let some = low (s .before .before) in
+    let most = twelve-received (a .source) (s .before .if2 .taken) in
+    rw (received (a .unit .now) (a .source) (a .number) some (omega arith) (s .before .if2 .taken), array-sub 0x2500 refl (a .number) some few)
     (ap Whole (back (c .whole-at .ok) (c .whole-at .ensures)))
+
+returns-4 : tie.Need-returns-4
+returns-4 c =
+    let a = c .before .before .before .before .args in
+    let most = fifteen-constants (a .source) (c .before .if4 .taken) in
+    sym (names-nothing (a .unit .now) (a .source) (a .number) (inr (omega (arith, most, c .if5 .taken))))
 
 constant-requires : tie.Need-constant-requires
 constant-requires c κs = search needs
 
-returns-4 : tie.Need-returns-4
-returns-4 c = let s = c .before .before .before in
-    let a = s .before .before .before .args in
-    ap Real (c .constant .ensures) ∙ sym (constants (a .unit .now) (a .source) (a .number) (low s) (high s) (c .before .if4 .taken))
+returns-5 : tie.Need-returns-5
+returns-5 c =
+    let s = c .before in
+    let a = s .before .before .before .before .args in
+    let few = s .if5 .left in
+    let most = fifteen-constants (a .source) (s .before .if4 .taken) in
+    ap Real (c .constant .ensures)
+    ∙ sym (constants (a .unit .now) (a .source) (a .number) (low (s .before .before .before)) (omega arith) (s .before .if4 .taken))
+
+extent-requires : tie.Need-extent-requires
+extent-requires c κs = (c .before .if2 .left, c .if4 .left)
+
+returns-6 : tie.Need-returns-6
+returns-6 c =
+    let a = c .before .before .before .before .before .args in
+    sym (names-nothing (a .unit .now) (a .source) (a .number) (inr (rw (← c .before .extent .ensures) (c .if6 .taken))))
+
+-- past the test on the number, the source has it
+high : (s : tie.Else6) → s .before .before .before .before .before .args .number ≤ extent (s .before .before .before .before .before .args .source) % 16
+high s = rw (← s .before .extent .ensures) (s .if6 .left)
 
 add-held : tie.Need-add-held
 add-held c = search needs
@@ -68,31 +85,34 @@ sub-held c = search needs
 
 held-requires : tie.Need-held-requires
 held-requires c κs =
-    let s = c .before .before in
-    let a = s .before .before .before .args in
-    rw (s .before .extent .ensures) (in-row (a .unit .now) (a .source) (a .number) (low s) (high s) (c .before .if3 .left) (c .if4 .left) .0)
+    let e = c .before .before in
+    let a = e .before .before .before .args in
+    rw (c .before .extent .ensures) (in-row (a .unit .now) (a .source) (a .number) (low (e .before .before)) (high c) (e .before .if2 .left) (e .if4 .left) .0)
 
-returns-5 : tie.Need-returns-5
-returns-5 c =
-    let s = c .before .before .before in
-    let a = s .before .before .before .args in
+returns-7 : tie.Need-returns-7
+returns-7 c =
+    let s = c .before in
+    let e = s .before .before in
+    let a = e .before .before .before .args in
     rw (s .before .extent .ensures) at (c .held .ensures)
-    ∙ sym (in-row (a .unit .now) (a .source) (a .number) (low s) (high s) (c .before .before .if3 .left) (c .before .if4 .left) .1)
+    ∙ sym (in-row (a .unit .now) (a .source) (a .number) (low (e .before .before)) (high s) (e .before .if2 .left) (e .if4 .left) .1)
 
 pub look-up-spec : {M : Type 1} → statement M
 look-up-spec =
     tie.close
     (tie.spec
     returns
-    extent-requires
     returns-2
     add-whole-at
     sub-whole-at
     whole-at-requires
     returns-3
-    constant-requires
     returns-4
+    constant-requires
+    returns-5
+    extent-requires
+    returns-6
     add-held
     sub-held
     held-requires
-    returns-5)
+    returns-7)

@@ -12,18 +12,24 @@ use Rattle.image.proofs.reading.order.run_rises.Statement.{statement}
 use Rattle.image.proofs.reading.order.run_rises.Tie as tie
 
 abbrev Inv-loop : tie.InvT-loop
-Inv-loop image run strict lower₀ upper₀ left₀ lower upper left =
-    (lower + 9 * left < 2 ^ 42) × ((upper + 9 * left < 2 ^ 42) × (every (rises image) (run-of run) ≡ every (rises image) (run-from lower upper strict left)))
+Inv-loop image run lower₀ upper₀ left₀ lower upper left =
+    (lower + 9 * left < 2 ^ 20) × ((upper + 9 * left < 2 ^ 20) × (every (rises image) (run-of run) ≡ every (rises image) (run-from lower upper (run .strict) left)))
 
 abbrev μ-loop : tie.MeasureT-loop
-μ-loop image run strict lower₀ upper₀ left₀ lower upper left = left
+μ-loop image run lower₀ upper₀ left₀ lower upper left = left
+
+cast-lower : tie.Need-cast-lower Inv-loop μ-loop
+cast-lower c = search needs
+
+cast-upper : tie.Need-cast-upper Inv-loop μ-loop
+cast-upper c = search needs
 
 loop-holds : tie.Need-loop-holds Inv-loop μ-loop
 unfolding run-of
 loop-holds c = (omega arith, (omega arith, refl))
 
 pair-rises-requires : tie.Need-pair-rises-requires Inv-loop μ-loop
-pair-rises-requires c κs = (omega arith, omega arith)
+pair-rises-requires c κs = search needs
 
 returns : tie.Need-returns Inv-loop μ-loop
 returns c =
@@ -54,6 +60,8 @@ run-rises-spec =
     (tie.spec
     Inv-loop
     μ-loop
+    cast-lower
+    cast-upper
     loop-holds
     pair-rises-requires
     returns
