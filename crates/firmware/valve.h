@@ -6,6 +6,7 @@
  *     static uint32_t unit[VALVE_UNIT];
  *     valve_start(unit);                                              once
  *     valve_tick(unit, samples);                                      every millisecond
+ *     valve_commands(unit, commands);                                 and what it commands, four numbers
  *     if (valve_serve(unit, frame, 8, reply, 8) == 8) send(reply);    for each SDO request
  *
  *     static uint8_t image[VALVE_IMAGE];
@@ -15,12 +16,12 @@
  * What each call does is proved for any words in the array, any frame, any samples and any image. A call never writes outside the
  * arrays that are lent to it, never reads past the lengths given, never allocates, never waits, never fails, and always returns. It
  * may be called from an interrupt; two calls on the same unit must not overlap in time. The arrays lent to one call must not overlap
- * each other. Pointers are not NULL, also where a length is 0, and a length is that of the array behind the pointer.
+ * each other. Pointers are not NULL, also where a length is 0, and a length is that of the array behind the pointer. Lengths are 64 bits
+ * wide on every chip.
  */
 #ifndef VALVE_H
 #define VALVE_H
 
-#include <stddef.h>
 #include <stdint.h>
 
 #ifdef __cplusplus
@@ -36,11 +37,16 @@ void valve_start(uint32_t *unit);
 /* Answers one SDO request of frame_length bytes (DS-301, expedited transfer). Returns the reply's length: 8 where the first 8 bytes of
  * reply now hold the answer, which may be an abort, or 0 where there is no answer and reply is as it was: a frame that is not 8 long,
  * room for fewer than 8 bytes, or the client's own abort (80h). Only an accepted write changes the unit, and that in one entry. */
-int32_t valve_serve(uint32_t *unit, const uint8_t *frame, size_t frame_length, uint8_t *reply, size_t reply_length);
+int32_t valve_serve(uint32_t *unit, const uint8_t *frame, uint64_t frame_length, uint8_t *reply, uint64_t reply_length);
 
-/* One tick of a millisecond on four samples, those of inputs 1 to 4. Afterwards the commands are 7330h:1-4 and the error register is
- * 1001h, to be read by valve_serve. */
+/* One tick of a millisecond on four samples, those of inputs 1 to 4. */
 void valve_tick(uint32_t *unit, const int16_t *samples);
+
+/* The four commands in mA, those of outputs 1 to 4, as the last tick left them: what a read of 7330h:1-4 answers. */
+void valve_commands(const uint32_t *unit, int16_t *commands);
+
+/* The error register, 21h while an input is flagged, else 0: what a read of 1001h answers. */
+uint8_t valve_error_register(const uint32_t *unit);
 
 /* How many bytes an image has. An image is a configuration: the count 611 (u32), then for each of the 611 entries, ascending by index
  * then sub, a record: index (u16), sub (u8), the data's size (u32), data. Numbers have their low byte first. */
@@ -59,15 +65,15 @@ void valve_tick(uint32_t *unit, const int16_t *samples);
 
 /* Writes the unit's configuration as the first VALVE_IMAGE bytes of image; bytes behind them stay. Returns 0, or VALVE_NO_ROOM. The
  * words are written as they are, none is judged. */
-int32_t valve_save(const uint32_t *unit, uint8_t *image, size_t image_length);
+int32_t valve_save(const uint32_t *unit, uint8_t *image, uint64_t image_length);
 
 /* Whether the image_length bytes are a good image: 0, or VALVE_ENDED_EARLY to VALVE_LEFT_OVER. */
-int32_t valve_check(const uint8_t *image, size_t image_length);
+int32_t valve_check(const uint8_t *image, uint64_t image_length);
 
 /* Makes the image's configuration the unit's if valve_check would return 0, and returns what it would return. All else in the unit
  * stays as it is: the EC values, and what ticks published and remember. So a fresh unit with that configuration is valve_start, then
  * valve_load. */
-int32_t valve_load(uint32_t *unit, const uint8_t *image, size_t image_length);
+int32_t valve_load(uint32_t *unit, const uint8_t *image, uint64_t image_length);
 
 #ifdef __cplusplus
 }

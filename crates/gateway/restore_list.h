@@ -17,12 +17,12 @@
  * What the call does is proved for any bytes and any lengths. It never writes outside list, never reads past the lengths given, keeps
  * nothing in memory from one call to the next, never allocates, never waits, and always returns; it needs nothing but a stack. Two
  * calls may run at the same time if neither's list is lent to the other. The list overlaps neither image; the two images may be the
- * same. Pointers are not NULL, also where a length is 0, and a length is that of the array before it.
+ * same. Pointers are not NULL, also where a length is 0, and a length is that of the array before it. Lengths are 64
+ * bits wide on every processor.
  */
 #ifndef RESTORE_LIST_H
 #define RESTORE_LIST_H
 
-#include <stddef.h>
 #include <stdint.h>
 
 #ifdef __cplusplus
@@ -55,8 +55,8 @@ extern "C" {
  * image has them, but 7148h:1-4 before 7120h:1-4. First come the records that rise, from the last to the first, then the others, from
  * the first to the last. A record rises if its value is larger in the wanted image than in the current one, both read as INTEGER16
  * from the low two bytes; a value of one byte is that byte. */
-int32_t restore_list(const uint8_t *current, size_t current_length, const uint8_t *wanted, size_t wanted_length, uint8_t *list,
-                     size_t list_length);
+int32_t restore_list(const uint8_t *current, uint64_t current_length, const uint8_t *wanted, uint64_t wanted_length, uint8_t *list,
+                     uint64_t list_length);
 
 #ifdef __cplusplus
 }

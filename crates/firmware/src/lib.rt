@@ -1,13 +1,16 @@
-// The unit for a firmware written in C: start, serve a frame, tick; save, check and load an image. Each is the crate's below; valve.h
+// The unit for a firmware written in C: start, serve a frame, tick, what a tick commands; save, check and load an image. Each is the crate's below; valve.h
 // tells a C programmer all of it.
 ghost use mathlib.Core.Path.{_≡_};
 ghost use Rattle.controller.specs.Tick.{ticked};
 ghost use Rattle.roles.specs.Values.{at-start};
 ghost use Rattle.image.specs.Reading.{reading};
+ghost use Rattle.firmware.specs.Published as published;
 ghost use Rattle.firmware.specs.Replied.{Replied};
 ghost use Rattle.firmware.specs.Told.{ToldSaved, ToldLoaded};
 ghost use Rattle.image.specs.Told.{told};
 use controller::tick::tick;
+use dictionary::slots::COMMAND;
+use dictionary::slots::ERROR_REGISTER;
 use dictionary::slots::Unit;
 use image::read;
 use image::reading::check;
@@ -16,6 +19,8 @@ use image::writing::write;
 use roles::start::start;
 use sdo::serving::serve;
 use sdo::types::Answer;
+use unit::words::byte_at;
+use unit::words::whole_at;
 
 #[no_mangle]
 pub extern "C" fn valve_start(unit: &mut Unit)
@@ -43,6 +48,24 @@ pub extern "C" fn valve_tick(unit: &mut Unit, samples: &[i16; 4])
     ensures { λ _. ⌜ now (unit .exit) ≡ ticked (now (samples .entry)) (now (unit .entry)) ⌝ }
 {
     tick(unit, *samples);
+}
+
+#[no_mangle]
+pub extern "C" fn valve_commands(unit: &Unit, commands: &mut [i16; 4])
+    ensures { λ _. ⌜ now (commands .exit) ≡ published.commands (now (unit .entry)) ⌝ }
+{
+    let one = whole_at(unit, COMMAND);
+    let two = whole_at(unit, COMMAND + 1);
+    let three = whole_at(unit, COMMAND + 2);
+    let four = whole_at(unit, COMMAND + 3);
+    *commands = [one, two, three, four];
+}
+
+#[no_mangle]
+pub extern "C" fn valve_error_register(unit: &Unit) -> u8
+    ensures { λ r. ⌜ r ≡ published.register (now (unit .entry)) ⌝ }
+{
+    byte_at(unit, ERROR_REGISTER)
 }
 
 #[no_mangle]
