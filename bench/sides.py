@@ -8,27 +8,24 @@ every instruction.
 """
 
 import ctypes
-import fcntl
 import os
 import pathlib
 import platform
 import struct
 import subprocess
+import sys
 import tempfile
 from typing import NamedTuple
 
 HERE = pathlib.Path(__file__).resolve().parent
 ROOT = HERE.parent
+sys.path.insert(0, str(ROOT / "chip"))
+import build as chips  # noqa: E402
+
 OUT = ROOT / "target" / "bench"
-LIBRARIES = ROOT / "target" / "staticlib"
 
 
-def _tools():
-    guide = subprocess.run(["rt", "doc"], check=True, stdout=subprocess.PIPE, text=True, cwd=ROOT).stdout.strip()
-    return pathlib.Path(guide).parent.parent / "on" / platform.machine() / "toolchain" / "bin"
-
-
-TOOLS = _tools()
+TOOLS = chips.kit()[1]
 EMULATOR = [] if platform.machine() == "x86_64" else [str(TOOLS / "qemu-x86_64")]
 C = "--target=x86_64-linux-gnu -std=c11 -O2 -ffp-contract=off -Wall -Wextra -Werror -nostdinc -fno-stack-protector".split()
 C += ["-ffunction-sections", "-fdata-sections"]  # as the crates' objects are, so that a linker can leave out what nobody calls
@@ -47,24 +44,10 @@ def linked(out, parts):
     return str(OUT / out)
 
 
-def _is_up_to_date(archive):
-    """Whether no file that it could be made of is younger."""
-    files = [ROOT / "crates.txt", *(ROOT / "crates").rglob("*")]
-    return archive.exists() and max(file.stat().st_mtime for file in files) < archive.stat().st_mtime
-
-
 def library(crate):
     """The crate's functions for C. It is built once; tests that run at the same time wait for the one that builds."""
-    archive = LIBRARIES / ("lib%s.a" % crate)
-    LIBRARIES.mkdir(parents=True, exist_ok=True)
-    with open(LIBRARIES / "lock", "w") as lock:
-        fcntl.flock(lock, fcntl.LOCK_EX)
-        if not _is_up_to_date(archive):
-            built = subprocess.run(["rt", "staticlib", crate], cwd=ROOT)
-            if built.returncode != 0:
-                archive.unlink(missing_ok=True)  # so that nobody who waited takes it for good
-            built.check_returncode()
-    return archive
+    chips.lowered(crate)
+    return chips.LIBRARIES / ("lib%s.a" % crate)
 
 
 def parts_of(side):
