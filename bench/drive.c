@@ -43,7 +43,12 @@ struct answer {
     };
 };
 
-enum { EVENTS = 1 << 19, IMAGE = 5300 };
+#ifdef __arm__
+enum { EVENTS = 1 << 16 }; /* what a board's memory has room for */
+#else
+enum { EVENTS = 1 << 19 };
+#endif
+enum { IMAGE = 5300 };
 
 static struct event events[EVENTS];
 static struct answer answers[EVENTS];
@@ -53,8 +58,15 @@ static uint8_t image[IMAGE], current[IMAGE], list[IMAGE];
 /* No paint lies where a call puts its return address: what is gone from there down is the called function's own. */
 void paint(void);
 int32_t gone(void);
+#ifdef __arm__
+__asm__(".thumb_func\npaint: sub.w r0, sp, #8192\nmovs r1, #0xA5\n"
+        "1: strb r1, [r0], #1\ncmp r0, sp\nbne 1b\nbx lr\n"
+        ".thumb_func\ngone: sub.w r0, sp, #8192\n"
+        "1: cmp r0, sp\nbeq 2f\nldrb r1, [r0], #1\ncmp r1, #0xA5\nbeq 1b\nsubs r0, #1\n2: mov r1, sp\nsubs r0, r1, r0\nbx lr\n");
+#else
 __asm__("paint: lea -8192(%rsp), %rdi\nmov $8192, %ecx\nmov $0xA5, %al\nrep stosb\nret\n"
         "gone: lea -8192(%rsp), %rdi\nmov $8193, %ecx\nmov $0xA5, %al\nrepe scasb\nmov %ecx, %eax\nret\n");
+#endif
 
 static int32_t digest(void)
 {

@@ -10,4 +10,12 @@ int32_t empty_check(const uint8_t *image, size_t image_length);
 int32_t empty_load(uint32_t *unit, const uint8_t *image, size_t image_length);
 int32_t empty_restore_list(const uint8_t *current, size_t current_length, const uint8_t *wanted, size_t wanted_length, uint8_t *list,
                            size_t list_length);
-__asm__("empty_start: empty_serve: empty_tick: empty_save: empty_check: empty_load: empty_restore_list: ret");
+#ifdef __arm__
+#define CALLED(name) ".thumb_func\n" #name ":\n"
+#define RETURN "bx lr"
+#else
+#define CALLED(name) #name ":\n"
+#define RETURN "ret"
+#endif
+__asm__(CALLED(empty_start) CALLED(empty_serve) CALLED(empty_tick) CALLED(empty_save) CALLED(empty_check) CALLED(empty_load)
+        CALLED(empty_restore_list) RETURN);

@@ -125,8 +125,10 @@ static float limit_real(float value, float low, float high) { return value < low
 /* The line through (x1, y1) and (x2, y2), x1 < x2: the value to nearest, halves away from zero. */
 static int32_t line(int32_t x, int32_t x1, int32_t y1, int32_t x2, int32_t y2)
 {
-    int64_t run = x2 - x1, value = y1 * run + (int64_t)(x - x1) * (y2 - y1);
-    return (int32_t)((2 * value + (value < 0 ? -run : run)) / (2 * run));
+    uint32_t run = (uint32_t)(x2 - x1), value = (uint32_t)y1 * run + (uint32_t)(x - x1) * (uint32_t)(y2 - y1);
+    if (value >> 31)
+        return -(int32_t)((run / 2 - value) / run);
+    return (int32_t)((run / 2 + value) / run);
 }
 
 static struct signal whole(int32_t number) { return (struct signal){.kind = WHOLE, .whole = number}; }

@@ -57,12 +57,15 @@ def parts_of(side):
     return [library("firmware"), library("gateway")] if side == "valve" else []
 
 
+def words_for(side):
+    """What drive.c is told of the side."""
+    words = ["-DSIDE=" + side, '-DHEADER="%s.h"' % side]
+    return [*words, "-include", "restore_list.h", "-Dvalve_restore_list=restore_list"] if side == "valve" else words
+
+
 def build(side):
     """The side's program."""
-    words = ["-DSIDE=" + side, '-DHEADER="%s.h"' % side]
-    if side == "valve":
-        words += ["-include", "restore_list.h", "-Dvalve_restore_list=restore_list"]
-    return linked(side, [compiled(HERE / "drive.c", side + ".drive.o", *words), *parts_of(side)])
+    return linked(side, [compiled(HERE / "drive.c", side + ".drive.o", *words_for(side)), *parts_of(side)])
 
 
 def _sections(program):
@@ -157,7 +160,7 @@ def _event(event):
     return struct.pack("<8s4h", b"T", *event)
 
 
-def _input(events):
+def input_of(events):
     file = tempfile.TemporaryFile()
     file.write(b"".join(map(_event, events)))
     file.seek(0)
@@ -166,9 +169,13 @@ def _input(events):
 
 def answers_and_memory(program, events):
     """The reply to each frame, empty where there is none, or the number returned; a tick's is empty. Then image and list."""
-    with _input(events) as file:
+    with input_of(events) as file:
         out = subprocess.run([*EMULATOR, program], stdin=file, stdout=subprocess.PIPE, check=True).stdout
-    end = 16 * len(events)
+    return read_answers(out, len(events))
+
+
+def read_answers(out, count):
+    end = 16 * count
     return [reply[:length] for length, reply in struct.iter_unpack("<B7x8s", out[:end])], out[end:]
 
 
@@ -204,5 +211,5 @@ def _logged(program, file):
 
 def instructions(program, events):
     """Of the whole run, its start too; deterministic."""
-    with _input(events) as file:
+    with input_of(events) as file:
         return _logged(program, file) if EMULATOR else _stepped(program, file)
