@@ -29,12 +29,15 @@ pub fn two_at(bytes: &[u8], at: usize) -> u16
     two(bytes[at], bytes[at + 1])
 }
 
-// The four bytes at a place, the same way.
+// The four bytes at a place, the same way; mostly all are there.
 pub fn four_at(bytes: &[u8], at: usize) -> u32
     ensures { λ r. ⌜ r ≡ little (take 4 (drop at (now (bytes .entry)))) ⌝ }
 {
     if at >= bytes.len() {
         return 0;
+    }
+    if bytes.len() - at >= 4 {
+        return four(bytes[at], bytes[at + 1], bytes[at + 2], bytes[at + 3]);
     }
     two_at(bytes, at) as u32 + 0x1_0000 * (two_at(bytes, at + 2) as u32)
 }

@@ -49,6 +49,14 @@ module _ (l : List ℕ) (at : ℕ) where
   unfolding little
   four-past h = rw (drop-of-length-le l h)
 
+  pub four-there : at + 4 ≤ length l → little (getD l at 0 ∷ getD l (at + 1) 0 ∷ getD l (at + 2) 0 ∷ getD l (at + 3) 0 ∷ []) ≡ little (take 4 (drop at l))
+  unfolding placed
+  four-there h =
+      let one : at + 1 ≡ suc at = omega arith in
+      let two : at + 2 ≡ suc (suc at) = omega arith in
+      let three : at + 3 ≡ suc (suc (suc at)) = omega arith in
+      rw (part l 4 at h, one, two, three)
+
   pub two-and-two : {low high : ℕ} → low ≡ little (take 2 (drop at l)) → high ≡ little (take 2 (drop (at + 2) l))
       → low + 0x10000 * high ≡ little (take 4 (drop at l))
   unfolding little
