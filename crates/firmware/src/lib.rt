@@ -16,7 +16,7 @@ use image::read;
 use image::reading::check;
 use image::refusals::number_of;
 use image::writing::write;
-use roles::start::start;
+use roles::start::start_in;
 use sdo::serving::serve;
 use sdo::types::Answer;
 use unit::words::byte_at;
@@ -26,7 +26,7 @@ use unit::words::whole_at;
 pub extern "C" fn valve_start(unit: &mut Unit)
     ensures { λ _. ⌜ now (unit .exit) ≡ at-start ⌝ }
 {
-    *unit = start();
+    start_in(unit);
 }
 
 // The length of the reply: 8, or 0 where there is none.

@@ -81,52 +81,34 @@ start-length : length at-start ≡ unit-size
 unfolding at-start unit-size words
 start-length = simp (length-append, starts-length, length-replicate)
 
-start-word : (k : ℕ) → k < words → getD at-start k 0 ≡ getD starts k 0
+pub start-word : (k : ℕ) → k < words → getD at-start k 0 ≡ getD starts k 0
 unfolding at-start
 start-word k h = List·getD-append starts (replicate (unit-size - words) 0) 0 k (rw starts-length h)
 
-start-zero : (k : ℕ) → words ≤ k → k < unit-size → getD at-start k 0 ≡ 0
+pub start-zero : (k : ℕ) → words ≤ k → k < unit-size → getD at-start k 0 ≡ 0
 unfolding at-start
 start-zero k l h =
     let e : length starts + (k - words) ≡ k = rw starts-length (omega arith) in
     rw (← e) (getD-append-add starts (replicate (unit-size - words) 0) (k - words) 0
     ∙ getD-replicate (unit-size - words) (k - words) 0 0 (omega arith))
 
-zero-anywhere : (n k : ℕ) → getD (replicate {A = ℕ} n 0) k 0 ≡ 0
-zero-anywhere zero k = refl
-zero-anywhere (suc n) zero = refl
-zero-anywhere (suc n) (suc k) = zero-anywhere n k
-
--- the words below a slot are the start's, the others are still zero
-pub record Laid (unit : List ℕ) (slot : ℕ) : Type 0 where
+-- the words below a slot are the start's
+pub record Filled (unit : List ℕ) (slot : ℕ) : Type 0 where
   pub long : length unit ≡ unit-size
-  pub done : (k : ℕ) → k < slot → getD unit k 0 ≡ getD starts k 0
-  pub left : (k : ℕ) → slot ≤ k → getD unit k 0 ≡ 0
+  pub done : (k : ℕ) → k < slot → getD unit k 0 ≡ getD at-start k 0
 
-pub laid-none : (unit : List ℕ) → unit ≡ replicate unit-size 0 → Laid unit 0
-laid-none unit e = record {
-  long = ap length e ∙ length-replicate {A = ℕ} unit-size 0;
-  done = λ k h. absurd (not-suc-le-zero h);
-  left = λ k h. ap (λ (l : List ℕ). getD l k 0) e ∙ zero-anywhere unit-size k;
-}
+pub filled-none : (unit : List ℕ) → length unit ≡ unit-size → Filled unit 0
+filled-none unit e = record { long = e; done = λ k h. absurd (not-suc-le-zero h) }
 
-in-words : (slot : ℕ) → slot < words → slot < unit-size
-unfolding unit-size words
-in-words slot h = omega arith
-
-pub laid-more : (unit : List ℕ) (slot v : ℕ) → slot < words → Laid unit slot → v ≡ getD starts slot 0 → Laid (set unit slot v) (slot + 1)
-laid-more unit slot v h laid e =
+pub filled-more : (unit : List ℕ) (slot v : ℕ) → slot < unit-size → Filled unit slot → v ≡ getD at-start slot 0 → Filled (set unit slot v) (slot + 1)
+filled-more unit slot v h filled e =
     record {
-      long = simp length-set (laid .long);
-      done = below-more (λ k. getD (set unit slot v) k 0 ≡ getD starts k 0) slot
-          (λ k l. getD-set-other unit slot k v 0 (λ q. omega arith) ∙ laid .done k l)
-          (getD-set-same unit slot v 0 (rw (laid .long) (in-words slot h)) ∙ e);
-      left = λ k l. getD-set-other unit slot k v 0 (λ q. omega arith) ∙ laid .left k (omega arith);
+      long = simp length-set (filled .long);
+      done = below-more (λ k. getD (set unit slot v) k 0 ≡ getD at-start k 0) slot
+          (λ k l. getD-set-other unit slot k v 0 (λ q. omega arith) ∙ filled .done k l)
+          (getD-set-same unit slot v 0 (rw (filled .long) h) ∙ e);
     }
 
-pub laid-whole : (unit : List ℕ) (slot : ℕ) → slot ≡ words → Laid unit slot → unit ≡ at-start
-laid-whole unit slot e laid = ext-getD 0 unit at-start (laid .long ∙ sym start-length) (λ k h. go k (rw (laid .long) at h) (decLt k words))
-  where
-    go : (k : ℕ) → k < unit-size → Dec (k < words) → getD unit k 0 ≡ getD at-start k 0
-    go k h (yes l) = laid .done k (omega arith) ∙ sym (start-word k l)
-    go k h (no n) = laid .left k (omega arith) ∙ sym (start-zero k (omega arith) h)
+pub filled-whole : (unit : List ℕ) (slot : ℕ) → unit-size ≤ slot → Filled unit slot → unit ≡ at-start
+filled-whole unit slot l filled =
+    ext-getD 0 unit at-start (filled .long ∙ sym start-length) (λ k h. let below : k < unit-size = rw (filled .long) at h in filled .done k (omega arith))

@@ -1,8 +1,9 @@
 // A fresh unit.
 ghost use mathlib.Core.Path.{_≡_};
 ghost use Prim.Native.Nat.{_<_, _≤_};
-ghost use lib.ListN.{getD};
+ghost use lib.ListN.{length, getD};
 ghost use Rattle.dictionary.specs.Names.{slot-of, words};
+ghost use Rattle.dictionary.specs.Unit.{unit-size};
 ghost use Rattle.roles.specs.Values.{starts, at-start};
 use dictionary::slots::*;
 
@@ -163,13 +164,39 @@ fn initial(slot: usize) -> u32
     other_start(slot)
 }
 
-// The dictionary's words; no tick has remembered anything yet.
+// A word of the fresh unit: the dictionary's, and behind them zeros, for no tick has remembered anything yet.
+fn fresh(slot: usize) -> u32
+    requires { ⌜ slot < unit-size ⌝ }
+    ensures { λ r. ⌜ r ≡ getD at-start slot 0 ⌝ }
+{
+    if slot < SIGNALS {
+        return initial(slot);
+    }
+    0
+}
+
+// Lent as a slice, so that its length is known.
+fn fill(unit: &mut [u32])
+    requires { ⌜ length (now unit) ≡ unit-size ⌝ }
+    ensures { λ _. ⌜ now (unit .exit) ≡ at-start ⌝ }
+{
+    for row in 0..UNIT as u32 {
+        let slot = row as usize;
+        unit[slot] = fresh(slot);
+    }
+}
+
+// In place, so that no second unit stands on the stack.
+pub fn start_in(unit: &mut Unit)
+    ensures { λ _. ⌜ now (unit .exit) ≡ at-start ⌝ }
+{
+    fill(unit);
+}
+
 pub fn start() -> Unit
     ensures { λ r. ⌜ r ≡ at-start ⌝ }
 {
     let mut unit = [0u32; UNIT];
-    for slot in 0..SIGNALS {
-        unit[slot] = initial(slot);
-    }
+    start_in(&mut unit);
     unit
 }

@@ -4,11 +4,11 @@ use borrow.Author.Needs.{needs}
 use Rattle.firmware.proofs.valve_start.Statement.{statement}
 use Rattle.firmware.proofs.valve_start.Tie as tie
 
-start-requires : tie.Need-start-requires
-start-requires c κs = search needs
+start-in-requires : tie.Need-start-in-requires
+start-in-requires c κs = search needs
 
 returns : tie.Need-returns
-returns c = c .start .ensures
+returns c = search needs
 
 pub valve-start-spec : {M : Type 1} → statement M
-valve-start-spec = tie.close (tie.spec start-requires returns)
+valve-start-spec = tie.close (tie.spec start-in-requires returns)
