@@ -4,11 +4,15 @@
 
 Builds both libraries for each chip and reads from their objects which symbols they ask for. What is not allowed is
 named with the functions that ask for it, and the exit status is 1. First the check's own check: C with such an
-operation, for each chip, where each must be found. The headers are compiled as C99 and as C++ for each chip. Needs the
-kit alone.
+operation, for each chip, where each must be found. The headers are compiled as C99 and as C++ for each chip, and what
+`../run chip` refuses is tried: modules that hang on one processor, an unknown chip, no kit, a crate that is not proved. Needs
+the kit alone.
 """
 
+import os
 import pathlib
+import shutil
+import subprocess
 import sys
 import tempfile
 
@@ -101,8 +105,73 @@ def check_headers(chip):
     return wrong
 
 
+# Lines that no module for a chip may have, and some that it may.
+REFUSED = (
+    "%a = ptrtoint ptr %p to i64",
+    "%p = inttoptr i64 %a to ptr",
+    "%q = addrspacecast ptr %p to ptr addrspace(1)",
+    "%s = type { i32, ptr }",
+    "%v = load { ptr, i64 }, ptr %p",
+    "%v = insertvalue { i32, i1 } undef, i32 %a, 0",
+    "@t = constant <{ [4 x i8] }> zeroinitializer",
+    'call void asm sideeffect "nop", ""()',
+    "%v = call i64 @llvm.x86.rdtsc()",
+)
+TAKEN = 'define internal void @"a::{ i32 }"(ptr %p, i64 %n) #0 {\n  %v = load [8 x i8], ptr %p, !range !{i8 0, i8 2}\n  ret void\n}'
+
+
+def check_modules():
+    wrong = []
+    for line in REFUSED:
+        try:
+            build.looked_at("a crate", line)
+            wrong.append("a module with '%s' is not refused" % line)
+        except build.Refused:
+            pass
+    build.looked_at("a crate", TAKEN)
+    return wrong
+
+
+# Stands in for rt where a crate is not proved.
+UNPROVED = """#!/bin/sh
+[ "$1" = doc ] && { echo "%s/docs/START-HERE.md"; exit; }
+echo "rt: FAILED: firmware"
+exit 1
+"""
+
+
+def check_refusals():
+    """What the command says and its status, in a copy that has no rt, or one that proves nothing."""
+    wrong = []
+    with tempfile.TemporaryDirectory() as folder:
+        place = pathlib.Path(folder)
+        shutil.copytree(ROOT / "chip", place / "chip")
+        for file in ("run", "crates.txt"):
+            shutil.copy(ROOT / file, place)
+        (place / "crates").symlink_to(ROOT / "crates")
+        tools = place / "bin"
+        tools.mkdir()
+        for tool in ("sh", "dirname"):
+            (tools / tool).symlink_to(shutil.which(tool))
+        (tools / "python3").symlink_to(sys.executable)
+
+        def tried(chip, said, status):
+            done = subprocess.run([place / "run", "chip", chip], env={**os.environ, "PATH": str(tools)}, capture_output=True, text=True)
+            lines = (done.stdout + done.stderr).splitlines()
+            if done.returncode != status or len(lines) != 1 or not lines[0].startswith(said):
+                wrong.append("run chip %s: status %d, %s" % (chip, done.returncode, lines))
+
+        tried("z80", "no chip 'z80'; there are cortex-m0plus, ", 2)
+        tried("cortex-m3", "no kit: ", 2)
+        (tools / "rt").write_text(UNPROVED % build.kit()[0])
+        (tools / "rt").chmod(0o755)
+        tried("cortex-m3", "firmware is not proved: ", 1)
+    return wrong
+
+
 def main(words):
-    wrong = [line for chip in words or ALLOWED for line in (*check_the_check(chip), *check_headers(chip))]
+    wrong = [*check_modules(), *check_refusals()]
+    wrong += [line for chip in words or ALLOWED for line in (*check_the_check(chip), *check_headers(chip))]
     for chip in words or ALLOWED:
         left = {}
         for crate in build.HEADERS:

@@ -3,7 +3,8 @@
     python3 readme.py
 
 Run are the first command but for its 'rt check', which the gate has done, and the five lines that link both libraries into
-a C program; the first of the five, which builds the libraries, is run once for all tests. The copy has the repository's own
+a C program; the first of the five, which builds the libraries, is run once for all tests. The firmware for a chip is compiled
+for it and linked: beside the board's own functions it asks for memory copies at most. The copy has the repository's own
 files and what was proved, so that nothing is proved twice and no other test is disturbed. The exit status is 1 where something
 else is printed.
 """
@@ -17,6 +18,9 @@ import tempfile
 ROOT = pathlib.Path(__file__).resolve().parent.parent
 sys.path.insert(0, str(ROOT / "bench"))
 import sides  # noqa: E402
+from sides import chips  # noqa: E402
+import elf  # noqa: E402
+import helpers  # noqa: E402
 
 # What stands before each block, and the last lines that it prints: the paper's own session, and a list of one record, 4 bytes
 # of count, then 3015h:2, its size and 150.
@@ -24,6 +28,8 @@ FIRST = "Run it:", ["4F01100000000000", "6015300200000000", "O 0 0 0 0 00"]
 LINKED = "There are two static libraries:", ["13 bytes: 01 00 00 00 15 30 02 02 00 00 00 96 00"]
 DONE_BY_THE_GATE = "rt check && "
 BUILT = "firmware", "gateway"
+ON_A_CHIP = "makes `target/chip/cortex-m4f/`"
+BOARD = {"read_inputs", "drive_coils", "can_send"}
 
 
 def block(opening):
@@ -56,6 +62,22 @@ def prints(place, lines, expected):
     return False
 
 
+def links_on_a_chip(place):
+    """Whether the firmware compiles for the M4F with its header, and what is linked asks for the board's functions and memory copies."""
+    library = chips.library("cortex-m4f", "firmware")
+    (place / "firmware.c").write_text("\n".join(block(ON_A_CHIP)))
+    words = ["-Wall", "-Wextra", "-Werror", "-I%s" % library.parent, "-I%s" % (ROOT / "bench" / "include")]
+    made = chips.compiled("cortex-m4f", place / "firmware.c", place / "firmware.o", *words)
+    calls = ["-u", "power_up", "-u", "every_millisecond", "-u", "can_received"]
+    linker = [chips.kit()[1] / "ld.lld", "-r", "--gc-sections", "-e", "power_up", *calls, "-o", place / "linked.o", made, library]
+    subprocess.run(linker, check=True)
+    asked = set(elf.Object((place / "linked.o").read_bytes()).asked())
+    if BOARD <= asked and asked - BOARD <= helpers.MEMORY:
+        return True
+    print("README.md: the firmware on a chip asks for %s" % " ".join(sorted(asked)))
+    return False
+
+
 def main():
     with tempfile.TemporaryDirectory() as folder:
         place = pathlib.Path(folder)
@@ -68,6 +90,7 @@ def main():
             sides.library(crate)
         good = prints(place, [first[0].removeprefix(DONE_BY_THE_GATE)], FIRST[1])
         good &= prints(place, linking[1:], LINKED[1])
+        good &= links_on_a_chip(place)
     return 0 if good else 1
 
 
