@@ -6,17 +6,19 @@ use Prim.Native.Nat.{ℕ, _-_}
 use native.Mathlib.Omega.{arith}
 use lib.ListN.{length, getD, set, take, drop, replicate, length-drop}
 use lib.Seq.{getD-set-other}
+use Rattle.numbers.specs.Choice.{first}
 use Rattle.dictionary.specs.Unit.{unit-size}
 use Rattle.dictionary.specs.declared.types.Found.the-variants.{At}
 use Rattle.dictionary.proofs.naming.NameLaws.{counted}
 use Rattle.dictionary.proofs.OneEach.{names-apart}
 use Rattle.entries.specs.Valid.{Valid}
 use Rattle.entries.proofs.Start.{valid-at-start}
-use Rattle.sdo.specs.Answers.{offered, writing, obeyed, answer}
+use Rattle.sdo.specs.Answers.{reading, offered, writing, obeyed, silent, answer}
 use Rattle.sdo.specs.Frames.{index-in, sub-in, reply, name-in, data-in, command-of, read-command, reply-to}
 use Rattle.sdo.specs.declared.types.Answer.{Answer}
 use Rattle.sdo.specs.declared.types.Answer.the-variants.{Silent, Aborted, Value, Written}
-use Rattle.sdo.specs.declared.types.Command.the-variants.{Write}
+use Rattle.sdo.specs.declared.types.Command.{Command}
+use Rattle.sdo.specs.declared.types.Command.the-variants.{Read, Write, Other}
 use Rattle.sdo.specs.Served.{after, filled}
 use Rattle.octets.specs.Little.{bytes, Bytes}
 use Rattle.sdo.proofs.AnswerLaws.{heard}
@@ -78,6 +80,11 @@ reads-back words frame room slot word size l b c e query eight r n =
     (reply-back words frame slot word a b l query eight r n)
 
 pub decided-by-configuration : Decided-by-configuration
-unfolding answer obeyed writing offered
-decided-by-configuration words other frame room slot size same c f h =
-    rw (c, f, judged-same words other (λ k l. same k l) slot (data-in size frame) h)
+unfolding answer obeyed reading writing offered
+decided-by-configuration words other frame room slot same f h =
+    ap (first (silent frame room) Silent) (by (command-of (getD frame 0 0)))
+  where
+    by : (c : Command) → obeyed words frame c ≡ obeyed other frame c
+    by Read = rw (f, same slot h)
+    by (Write size) = rw (f, judged-same words other (λ k l. same k l) slot (data-in size frame) h)
+    by Other = refl

@@ -62,10 +62,10 @@ Stays-valid =
     Valid at-start
     × ((unit frame : List ℕ) (room : ℕ) → length unit ≡ unit-size → Bytes frame → Valid unit → Valid (after unit (answer unit frame room)))
 
--- the configuration decides the answer to a configuration write, and nothing else does
+-- the configuration decides the answer to a frame that names one of its entries, and nothing else does
 abbrev pub Decided-by-configuration : Type 0
 Decided-by-configuration =
-    (unit other frame : List ℕ) (room slot size : ℕ)
+    (unit other frame : List ℕ) (room slot : ℕ)
     → ((k : ℕ) → k < configured → getD unit k 0 ≡ getD other k 0)
-    → command-of (getD frame 0 0) ≡ Write size → find (index-in frame) (sub-in frame) ≡ At slot → slot < configured
+    → find (index-in frame) (sub-in frame) ≡ At slot → slot < configured
     → answer unit frame room ≡ answer other frame room
