@@ -10,12 +10,11 @@ use Rattle.dictionary.specs.Unit.{unit-size}
 use Rattle.dictionary.specs.declared.types.Found.the-variants.{At}
 use Rattle.entries.specs.Valid.{Valid}
 use Rattle.roles.specs.Values.{at-start}
-use Rattle.sdo.specs.Answers.{answer}
-use Rattle.sdo.specs.Frames.{index-in, sub-in, name-in, code, command-of, read-command, reply-to}
+use Rattle.sdo.specs.Answers.{size-of, answer}
+use Rattle.sdo.specs.Frames.{index-in, sub-in, name-in, code, read-command, reply-to}
 use Rattle.sdo.specs.declared.types.Abort.{Abort}
 use Rattle.sdo.specs.declared.types.Answer.{Answer}
 use Rattle.sdo.specs.declared.types.Answer.the-variants.{Silent, Aborted, Written}
-use Rattle.sdo.specs.declared.types.Command.the-variants.{Write}
 use Rattle.sdo.specs.Served.{Served, after}
 
 -- "after a refusal the controller and the lent buffers hold what they held before, save for an abort frame where a reply is due":
@@ -47,14 +46,13 @@ Determined =
     (unit frame reply u₁ b₁ u₂ b₂ : List ℕ) (r s : Answer) → Served unit frame reply u₁ b₁ r → Served unit frame reply u₂ b₂ s
     → (r ≡ s) × (u₁ ≡ u₂) × (b₁ ≡ b₂)
 
--- an accepted write changes one slot, and a read of the same name then answers with the bytes written, zeros behind them
+-- an accepted write changes one slot, and a read of the same name then answers with the bytes written, as many as its type has, zeros behind them
 abbrev pub Reads-back : Type 0
 Reads-back =
-    (unit frame : List ℕ) (room slot word size : ℕ) → length unit ≡ unit-size → Bytes frame
-    → command-of (getD frame 0 0) ≡ Write size → answer unit frame room ≡ Written slot word
+    (unit frame : List ℕ) (room slot word : ℕ) → length unit ≡ unit-size → Bytes frame → answer unit frame room ≡ Written slot word
     → (query : List ℕ) → length query ≡ 8 → getD query 0 0 ≡ 0x40 → name-in query ≡ name-in frame
     → reply-to query (answer (after unit (Written slot word)) query 8)
-    ≡ read-command size ∷ name-in frame ++ take size (drop 4 frame) ++ replicate (4 - size) 0
+    ≡ read-command (size-of slot) ∷ name-in frame ++ take (size-of slot) (drop 4 frame) ++ replicate (4 - size-of slot) 0
 
 -- "Chains, true at all times": at start, and after every frame
 abbrev pub Stays-valid : Type 0
