@@ -14,7 +14,8 @@ use Rattle.dictionary.specs.Names.{configured}
 use Rattle.records.specs.Layout.{Listed, size, listed, nothing}
 use Rattle.records.specs.Walk.{size-in, data-in, data-there, values}
 use Rattle.records.proofs.RightLaws.{Right, All-right, Whole}
-use Rattle.records.proofs.TakeLaws.{is-there, at-most-four}
+use Rattle.roles.proofs.widths.WidthLaws.{at-most-four}
+use Rattle.records.proofs.TakeLaws.{is-there}
 use Rattle.records.proofs.WalkLaws.{onward}
 use Rattle.image.specs.Reading.{configuration-in}
 use Rattle.image.proofs.reading.Acceptance.{Accepted}

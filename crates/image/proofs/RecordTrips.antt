@@ -15,7 +15,7 @@ use Rattle.dictionary.specs.Rows.{width}
 use Rattle.records.specs.Layout.{Listed, size, extent, record-of, records, entry}
 use Rattle.records.specs.Walk.{index-in, sub-in, size-in, data-in, fits, values}
 use Rattle.records.proofs.RightLaws.{Right, All-right}
-use Rattle.records.proofs.TakeLaws.{at-most-four}
+use Rattle.roles.proofs.widths.WidthLaws.{at-most-four}
 
 -- a word that an entry can hold, and a name that its record can hold
 pub record Fit (e : Listed) (word : ℕ) : Type 0 where

@@ -24,7 +24,7 @@ use Rattle.records.specs.Layout.{Listed, size}
 use Rattle.records.specs.Walk as records
 use Rattle.records.specs.Walk.{size-in}
 use Rattle.records.proofs.RightLaws.{Right}
-use Rattle.records.proofs.TakeLaws.{at-most-four}
+use Rattle.roles.proofs.widths.WidthLaws.{at-most-four}
 use Rattle.promises.specs.Delivery.{write-command, frame-of}
 
 -- the index of a record, by its bytes

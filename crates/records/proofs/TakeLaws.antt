@@ -63,13 +63,6 @@ is-there kind rest {n} e h = rw (le-ltb (length rest) (7 + n) h, e) (go kind)
     go Unsigned16 = refl
     go Real32 = refl
 
-pub at-most-four : (kind : Kind) → width kind ≤ 4
-unfolding width
-at-most-four Unsigned8 = omega arith
-at-most-four Integer16 = omega arith
-at-most-four Unsigned16 = omega arith
-at-most-four Real32 = omega arith
-
 -- ---- the entry of a row's sub, by its role
 
 module _ (row sub : ℕ) {role : ℕ} (q : role ≡ role-at row sub) where

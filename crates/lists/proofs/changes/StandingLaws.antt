@@ -14,7 +14,7 @@ use Rattle.records.specs.Layout.{Listed, listed, size, entry, offset, record-in
 use Rattle.records.specs.Walk.{size-in, data-in}
 use Rattle.records.specs.declared.types.Outcome.the-variants.{Good}
 use Rattle.records.proofs.RightLaws.{Right}
-use Rattle.records.proofs.TakeLaws.{at-most-four}
+use Rattle.roles.proofs.widths.WidthLaws.{at-most-four}
 use Rattle.image.specs.Reading.{reading, configuration-in}
 use Rattle.image.proofs.reading.Acceptance.{Accepted, accepted}
 use Rattle.image.proofs.reading.PlaceLaws.{counted, value-at, right-at}

@@ -11,7 +11,7 @@ use borrow.Author.Tests.{ne-eqb, ltb-true}
 use Rattle.numbers.specs.Choice.{first}
 use Rattle.dictionary.specs.Rows.{width, i16}
 use Rattle.dictionary.specs.declared.types.Kind.{Kind}
-use Rattle.dictionary.specs.declared.types.Kind.the-variants.{Unsigned8, Integer16}
+use Rattle.dictionary.specs.declared.types.Kind.the-variants.{Unsigned8, Integer16, Unsigned16, Real32}
 use Rattle.dictionary.specs.declared.types.Range.{Range}
 use Rattle.dictionary.proofs.Sieve.{agree-on}
 use Rattle.dictionary.proofs.Tabulate.{tabulate}
@@ -66,6 +66,21 @@ two-wide {role} l = go (decLt role 12)
     go : Dec (role < 12) → 2 ≡ width (ranged role .kind)
     go (yes h) = let e : role ≡ 11 = omega arith in rw e
     go (no n) = ap width (kind-whole {role = role} (omega arith))
+
+-- a type has one to four bytes
+pub at-least-one : (kind : Kind) → 1 ≤ width kind
+unfolding width
+at-least-one Unsigned8 = omega arith
+at-least-one Integer16 = omega arith
+at-least-one Unsigned16 = omega arith
+at-least-one Real32 = omega arith
+
+pub at-most-four : (kind : Kind) → width kind ≤ 4
+unfolding width
+at-most-four Unsigned8 = omega arith
+at-most-four Integer16 = omega arith
+at-most-four Unsigned16 = omega arith
+at-most-four Real32 = omega arith
 
 -- a slot's type is its role's
 pub kind-told : {role slot : ℕ} → Told role slot → ranged role .kind ≡ range-of slot .kind
