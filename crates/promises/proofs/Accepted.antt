@@ -26,13 +26,10 @@ use Rattle.sdo.proofs.AnswerLaws.{heard}
 use Rattle.sdo.proofs.ReplyLaws.{written-speaks}
 
 pub record Accepted (words frame : List ℕ) (slot word : ℕ) : Type 0 where
-  pub size : ℕ
   pub eight : length frame ≡ 8
-  pub commanded : command-of (getD frame 0 0) ≡ Write size
   pub found : find (index-in frame) (sub-in frame) ≡ found.At slot
   pub below : slot < writable
-  pub fits : size-of slot ≡ size
-  pub holds : word ≡ data-in size frame
+  pub holds : word ≡ data-in (size-of slot) frame
   pub good : judged words slot word ≡ verdict.Good
 
 module _ (words frame : List ℕ) (room slot word : ℕ) where
@@ -65,10 +62,10 @@ module _ (words frame : List ℕ) (room slot word : ℕ) where
 
   module _ (eight : length frame ≡ 8) where
     -- rows 5 to 9
-    by-offer : (s size : ℕ) → command-of (getD frame 0 0) ≡ Write size → find (index-in frame) (sub-in frame) ≡ found.At s
+    by-offer : (s size : ℕ) → find (index-in frame) (sub-in frame) ≡ found.At s
         → offered words s size (data-in size frame) ≡ Written slot word → Accepted words frame slot word
     unfolding offered
-    by-offer s size c f e =
+    by-offer s size f e =
         let own = passed (not (ltb s writable)) _ _ e in
         let long = passed (ltb (size-of s) size) _ _ (own .1) in
         let short = passed (ltb size (size-of s)) _ _ (long .1) in
@@ -80,24 +77,21 @@ module _ (words frame : List ℕ) (room slot word : ℕ) where
         let data-is : data-in size frame ≡ word = kept .2 in
         let own-size : size-of s ≡ size = omega arith in
         record {
-          size = size;
           eight = eight;
-          commanded = c;
           found = f ∙ ap found.At same;
           below = rw same at l;
-          fits = rw same at own-size;
-          holds = sym data-is;
+          holds = sym data-is ∙ ap (λ (n : ℕ). data-in n frame) (sym (rw same at own-size));
           good = ap (λ (w : ℕ). judged words slot w) (sym data-is) ∙ ap (λ (s : ℕ). judged words s (data-in size frame)) (sym same) ∙ kept .0;
         }
 
     -- rows 3 and 4
-    by-name : (size : ℕ) → command-of (getD frame 0 0) ≡ Write size → (f : Found) → find (index-in frame) (sub-in frame) ≡ f
+    by-name : (size : ℕ) (f : Found) → find (index-in frame) (sub-in frame) ≡ f
         → writing words size (data-in size frame) f ≡ Written slot word → Accepted words frame slot word
     unfolding writing refused
-    by-name size c found.NoIndex f e = absurd (no-abort _ e)
-    by-name size c found.NoSub f e = absurd (no-abort _ e)
-    by-name size c (found.Count n) f e = absurd (no-abort _ e)
-    by-name size c (found.At s) f e = by-offer s size c f e
+    by-name size found.NoIndex f e = absurd (no-abort _ e)
+    by-name size found.NoSub f e = absurd (no-abort _ e)
+    by-name size (found.Count n) f e = absurd (no-abort _ e)
+    by-name size (found.At s) f e = by-offer s size f e
 
     no-read : (f : Found) → reading words f ≡ Written slot word → ⊥
     unfolding reading
@@ -107,14 +101,14 @@ module _ (words frame : List ℕ) (room slot word : ℕ) where
     no-read (found.At s) e = no-value _ _ e
 
     -- row 2
-    by-command : (c : Command) → command-of (getD frame 0 0) ≡ c → obeyed words frame c ≡ Written slot word → Accepted words frame slot word
+    by-command : (c : Command) → obeyed words frame c ≡ Written slot word → Accepted words frame slot word
     unfolding obeyed
-    by-command Read c e = absurd (no-read (find (index-in frame) (sub-in frame)) e)
-    by-command (Write size) c e = by-name size c (find (index-in frame) (sub-in frame)) refl e
-    by-command Other c e = absurd (no-abort _ e)
+    by-command Read e = absurd (no-read (find (index-in frame) (sub-in frame)) e)
+    by-command (Write size) e = by-name size (find (index-in frame) (sub-in frame)) refl e
+    by-command Other e = absurd (no-abort _ e)
 
   pub accepted : answer words frame room ≡ Written slot word → Accepted words frame slot word
   unfolding answer
   accepted e =
       by-command (heard words frame room (Written slot word) (sym e) (written-speaks words frame (Written slot word) slot word refl) .0)
-      (command-of (getD frame 0 0)) refl (spoken (silent frame room) (obeyed words frame (command-of (getD frame 0 0))) e)
+      (command-of (getD frame 0 0)) (spoken (silent frame room) (obeyed words frame (command-of (getD frame 0 0))) e)

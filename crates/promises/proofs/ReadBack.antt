@@ -16,7 +16,8 @@ use Rattle.octets.specs.Little.{little, bytes, Bytes}
 use Rattle.sdo.specs.Frames.{index-in, sub-in, name-in, data-in, command-of, read-command, cut, reply, reply-to}
 use Rattle.sdo.specs.declared.types.Answer.the-variants.{Value}
 use Rattle.sdo.specs.declared.types.Command.the-variants.{Read}
-use Rattle.sdo.proofs.AnswerLaws.{write-sizes, spoken}
+use Rattle.roles.proofs.widths.WidthLaws.{at-most-four}
+use Rattle.sdo.proofs.AnswerLaws.{spoken}
 use Rattle.promises.proofs.Accepted.{Accepted}
 use Rattle.octets.proofs.little.ByteLaws.{bytes-from, bytes-to, given-back}
 use Rattle.promises.proofs.ByteLaws.{uncut}
@@ -24,16 +25,16 @@ use Rattle.promises.proofs.Writing.{there, of-own-size}
 
 module _ (words frame : List ℕ) (slot word : ℕ) (a : Accepted words frame slot word) (b : Bytes frame) where
   -- the bytes of the word are those of the frame
-  bytes-back : bytes 4 (cut word (a .size)) ≡ take (a .size) (drop 4 frame) ++ replicate (4 - a .size) 0
+  bytes-back : bytes 4 (cut word (size-of slot)) ≡ take (size-of slot) (drop 4 frame) ++ replicate (4 - size-of slot) 0
   unfolding size-of data-in
   bytes-back =
       let four : length (drop 4 frame) ≡ 4 = length-drop 4 frame ∙ ap (λ (n : ℕ). n - 4) (a .eight) in
-      let most : a .size ≤ 4 = write-sizes (getD frame 0 0) (a .size) (command-of (getD frame 0 0)) refl (a .commanded) .1 in
-      let long : length (take (a .size) (drop 4 frame)) ≡ a .size = length-take-le (a .size) (drop 4 frame) (omega arith) in
-      let whole : cut word (a .size) ≡ word = subst (λ (n : ℕ). cut word n ≡ word) (a .fits) (uncut (range-of slot .kind) word (of-own-size words frame slot word a b)) in
+      let most : size-of slot ≤ 4 = at-most-four (range-of slot .kind) in
+      let long : length (take (size-of slot) (drop 4 frame)) ≡ size-of slot = length-take-le (size-of slot) (drop 4 frame) (omega arith) in
+      let whole : cut word (size-of slot) ≡ word = uncut (range-of slot .kind) word (of-own-size words frame slot word a b) in
       ap (bytes 4) (whole ∙ a .holds)
-      ∙ given-back 4 (take (a .size) (drop 4 frame)) (bytes-to (a .size) (drop 4 frame) (bytes-from 4 frame b)) (omega arith)
-      ∙ ap (λ (n : ℕ). take (a .size) (drop 4 frame) ++ replicate (4 - n) 0) long
+      ∙ given-back 4 (take (size-of slot) (drop 4 frame)) (bytes-to (size-of slot) (drop 4 frame) (bytes-from 4 frame b)) (omega arith)
+      ∙ ap (λ (n : ℕ). take (size-of slot) (drop 4 frame) ++ replicate (4 - n) 0) long
 
   module _ (l : length words ≡ unit-size) (query : List ℕ) (eight : length query ≡ 8) (c : getD query 0 0 ≡ 0x40) (n : name-in query ≡ name-in frame) where
     same-name : find (index-in query) (sub-in query) ≡ At slot
@@ -44,18 +45,17 @@ module _ (words frame : List ℕ) (slot word : ℕ) (a : Accepted words frame sl
     unfolding command-of first
     a-read = rw c
 
-    value-back : answer (set words slot word) query 8 ≡ Value word (a .size)
+    value-back : answer (set words slot word) query 8 ≡ Value word (size-of slot)
     unfolding obeyed reading
     value-back =
         sym (spoken (set words slot word) query 8 eight (omega arith) (λ e. omega arith))
         ∙ ap (obeyed (set words slot word) query) a-read
         ∙ ap (reading (set words slot word)) same-name
         ∙ ap (λ (w : ℕ). Value w (size-of slot)) (there words frame slot word a l)
-        ∙ ap (Value word) (a .fits)
 
-    pub reply-back : reply-to query (answer (set words slot word) query 8) ≡ read-command (a .size) ∷ name-in frame ++ take (a .size) (drop 4 frame) ++ replicate (4 - a .size) 0
+    pub reply-back : reply-to query (answer (set words slot word) query 8) ≡ read-command (size-of slot) ∷ name-in frame ++ take (size-of slot) (drop 4 frame) ++ replicate (4 - size-of slot) 0
     unfolding reply-to reply name-in
     reply-back =
         ap (reply-to query) value-back
-        ∙ ap (λ (m : List ℕ). read-command (a .size) ∷ m ++ bytes 4 (cut word (a .size))) n
-        ∙ ap (λ (m : List ℕ). read-command (a .size) ∷ name-in frame ++ m) bytes-back
+        ∙ ap (λ (m : List ℕ). read-command (size-of slot) ∷ m ++ bytes 4 (cut word (size-of slot))) n
+        ∙ ap (λ (m : List ℕ). read-command (size-of slot) ∷ name-in frame ++ m) bytes-back

@@ -73,9 +73,7 @@ stays-valid = (valid-at-start, λ words frame room l b v. kept words frame room 
 pub reads-back : Reads-back
 unfolding after
 reads-back words frame room slot word l b e query eight r n =
-    let a = accepted words frame room slot word e in
-    subst (λ (k : ℕ). reply-to query (answer (set words slot word) query 8) ≡ read-command k ∷ name-in frame ++ take k (drop 4 frame) ++ replicate (4 - k) 0) (sym (a .fits))
-    (reply-back words frame slot word a b l query eight r n)
+    reply-back words frame slot word (accepted words frame room slot word e) b l query eight r n
 
 pub decided-by-configuration : Decided-by-configuration
 unfolding answer obeyed reading writing offered

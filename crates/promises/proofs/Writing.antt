@@ -36,8 +36,7 @@ module _ (words frame : List ℕ) (slot word : ℕ) (a : Accepted words frame sl
   pub of-own-size : Bytes frame → word < 256 ^ width (range-of slot .kind)
   unfolding size-of data-in
   of-own-size b =
-      subst (λ (n : ℕ). word < 256 ^ n) (sym (a .fits))
-      (subst (λ (w : ℕ). w < 256 ^ a .size) (sym (a .holds)) (little-below (a .size) (drop 4 frame) (bytes-from 4 frame b)))
+      subst (λ (w : ℕ). w < 256 ^ size-of slot) (sym (a .holds)) (little-below (size-of slot) (drop 4 frame) (bytes-from 4 frame b))
 
   module _ (l : length words ≡ unit-size) where
     pub there : getD (set words slot word) slot 0 ≡ word
