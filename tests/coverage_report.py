@@ -56,6 +56,10 @@ def see_refusal(result, dictionary, frame):
     hit("abort %08Xh" % code)
     if row == 6 and frame[0] == 0x27:
         hit("three bytes refused")
+    if frame[0] == 0x22:
+        hit("22h row", row, SIDE[code]) if row in (8, 9) else hit("22h row", row)
+    if row == 2 and frame[0] in (0x26, 0x2A, 0x2E):
+        hit("row 2 %02Xh" % frame[0])
 
 
 def see_answer(result, dictionary, frame, room=8):
@@ -65,6 +69,11 @@ def see_answer(result, dictionary, frame, room=8):
         hit("good answer %02Xh" % result[0])
         if frame[0] != 0x40:
             hit("good write %02Xh" % frame[0])
+        if frame[0] == 0x22:
+            size = dictionary.entry(frame[1] | frame[2] << 8, frame[3]).type.size
+            hit("22h takes", size, "bytes")
+            if any(frame[4 + size :]):
+                hit("22h takes", size, "bytes and leaves others")
 
 
 def see_line(result, printer, text):
@@ -431,7 +440,11 @@ def expected():
     for code in "05040001 06020000 06090011 06010002 06070012 06070013 06090030 06090031 06090032".split():
         yield "abort %sh" % code
     yield from ("good answer %02Xh" % command for command in (0x43, 0x4B, 0x4F, 0x60))
-    yield from ("good write %02Xh" % command for command in (0x23, 0x2B, 0x2F))
+    yield from ("good write %02Xh" % command for command in (0x23, 0x2B, 0x2F, 0x22))
+    yield from ("22h takes %d bytes" % size for size in (1, 2, 4))
+    yield from ("22h takes %d bytes and leaves others" % size for size in (1, 2))
+    yield from ("22h row " + row for row in ("3", "4", "5", "7", "8 above", "8 below", "9 above", "9 below"))
+    yield from ("row 2 %02Xh" % command for command in (0x26, 0x2A, 0x2E))
     yield from ("line T", "line S with reply", "line S without reply", "line ?", "line T with leading zeros")
     for what in "empty/longer than 64/of 64/CR/NUL/byte over 127/spaces/lower case/one digit off".split("/"):
         yield "? " + what

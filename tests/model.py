@@ -1,9 +1,10 @@
-"""An outside model of document 01: the dictionary, the frames, one tick and the session printer.
+"""An outside model of document 01 and of the requests of document 02 that have landed: the
+dictionary, the frames, one tick and the session printer.
 
-It is written from the paper alone and shares nothing with the product, so that a
+It is written from the papers alone and shares nothing with the product, so that a
 mistake made in the one is not made in the other. It is meant to be read beside the
-paper: the names are the paper's, and a comment quotes the sentence a line stands for.
-(OP n) names the open point whose reading is taken where the paper leaves two.
+papers: the names are theirs, and a comment quotes the sentence a line stands for.
+(OP n) names the open point whose reading is taken where a paper leaves two, (ii) the request.
 
     python3 model.py < session       prints what the session program must print
 """
@@ -13,6 +14,9 @@ import operator
 import re
 import struct
 import sys
+
+# The requests that have landed. Without one, the model is the controller as it was before it.
+REQUESTS = ("ii",)
 
 # --------------------------------------------------------------------------- Numbers
 
@@ -299,16 +303,28 @@ class Dictionary:
 
 READ = 0x40
 WRITES = {0x23: 4, 0x27: 3, 0x2B: 2, 0x2F: 1}
+UNTOLD = 0x22  # (ii): a write, "expedited, size not told"
+
+
+def is_taken(command):
+    """Whether order 2 lets the command byte pass; of those that tell no size 22h alone (OP 102)."""
+    return command == READ or command in WRITES or (command == UNTOLD and "ii" in REQUESTS)
+
+
+def length_of(command, entry):
+    """How many bytes a write has; (ii): "The length is then the entry's own" """
+    return WRITES.get(command, entry.type.size)
 
 
 def abort_bytes(code):
     return code.to_bytes(4, "little")
 
 
-def value_refusal(entry, size, data):
-    """Rows 5 to 9 for a write of so many bytes to a known name."""
+def value_refusal(entry, command, data):
+    """Rows 5 to 9 for a write to a known name; (ii): "order 6 never arises for it" """
     if not entry.writable:
         return 5, 0x06010002
+    size = length_of(command, entry)
     if size > entry.type.size:
         return 6, 0x06070012
     if size < entry.type.size:
@@ -330,7 +346,7 @@ def value_refusal(entry, size, data):
 def refusal(dictionary, frame):
     """The first of the rows 2 to 9 that matches, with its abort code; None for a good frame."""
     command = frame[0]
-    if command != READ and command not in WRITES:
+    if not is_taken(command):
         return 2, 0x05040001
     subs = dictionary.objects.get(frame[1] | frame[2] << 8)
     if subs is None:
@@ -340,7 +356,7 @@ def refusal(dictionary, frame):
         return 4, 0x06090011
     if command == READ:
         return None
-    return value_refusal(entry, WRITES[command], frame[4:])
+    return value_refusal(entry, command, frame[4:])
 
 
 def is_unanswered(frame, room):

@@ -1,8 +1,9 @@
 """An SDO client that knows DS-301 and the paper's table of names, and nothing else.
 
 It builds expedited frames from DS-301's bit fields, walks every name of document 01 with
-good and bad requests, and checks each reply against what the paper says. It has its own
-table of names and its own memory of what was accepted; it shares nothing with the model.
+good and bad requests, and checks each reply against what the paper says, and document 02 of
+writes that do not tell their size. It has its own table of names and its own memory of what
+was accepted; it shares nothing with the model.
 
     python3 sdo_client.py PROGRAM
 
@@ -38,6 +39,11 @@ def frame(command, index, sub, data):
 def download(index, sub, data):
     """A write of 1 to 4 bytes: expedited, size told."""
     return frame(command_byte(INITIATE_DOWNLOAD, n=4 - len(data), e=1, s=1), index, sub, data)
+
+
+def download_untold(index, sub, data):
+    """A write whose size is not told: expedited, s and therefore n 0. The entry's own bytes count, whatever stands behind them."""
+    return frame(command_byte(INITIATE_DOWNLOAD, n=0, e=1, s=0), index, sub, data)
 
 
 def upload(index, sub, data=b""):
@@ -287,6 +293,7 @@ CODES = {
     "below": 0x06090032,
 }
 DOWNLOAD_COMMANDS = {command_byte(INITIATE_DOWNLOAD, 4 - size, 1, 1): size for size in (1, 2, 3, 4)}
+UNTOLD = command_byte(INITIATE_DOWNLOAD, n=0, e=1, s=0)
 
 
 def reason_against(name, data):
@@ -328,7 +335,7 @@ class Client:
         if command >> 5 == ABORT and command == command_byte(ABORT):
             return NO_REPLY
         reading = command == command_byte(INITIATE_UPLOAD)
-        if not reading and command not in DOWNLOAD_COMMANDS:
+        if not reading and command != UNTOLD and command not in DOWNLOAD_COMMANDS:
             return Reply("abort", index, sub, 0, CODES["command"])
         if index not in self.paper.indexes:
             return Reply("abort", index, sub, 0, CODES["index"])
@@ -337,7 +344,7 @@ class Client:
             return Reply("abort", index, sub, 0, CODES["sub"])
         if reading:
             return Reply("value", index, sub, name.size, int.from_bytes(name.bytes_of(name.held), "little"))
-        data = raw[4 : 4 + DOWNLOAD_COMMANDS[command]]
+        data = raw[4 : 4 + (name.size if command == UNTOLD else DOWNLOAD_COMMANDS[command])]
         reason = reason_against(name, data)
         if reason:
             return Reply("abort", index, sub, 0, CODES[reason])
@@ -388,18 +395,32 @@ class Client:
                     self.request(download(name.index, name.sub, data))
             self.restore(name)
 
+    def sizes_not_told(self):
+        """Every name, sub 0 and read-only ones too, by 22h: its ends and a step beyond, something behind its own bytes."""
+        for name in self.every_name():
+            lowest, highest = name.type_range()
+            values = (name.low, name.high, name.low - 1, name.high + 1, 0x7F7FFFFF, 0x7F800000, name.default)
+            for value in values:
+                if lowest <= value <= highest:
+                    for junk in (b"\x00\x00\x00", b"\xee\xdd\xcc"):
+                        self.request(download_untold(name.index, name.sub, (name.bytes_of(value) + junk)[:4]))
+                    self.read(name)
+            self.restore(name)
+
     def every_sub(self):
         for index in sorted(self.paper.indexes):
             for sub in range(256):
                 self.request(upload(index, sub))
                 if (index, sub) not in self.paper.names:
                     self.request(download(index, sub, b"\x00\x00"))
+                    self.request(download_untold(index, sub, b"\x00\x00"))
 
     def every_index(self):
         for index in range(65536):
             self.request(upload(index, 0))
             if index not in self.paper.indexes and index % 5 == 0:
                 self.request(download(index, 1, b"\x00"))
+                self.request(download_untold(index, 1, b"\x00"))
 
     def every_command(self):
         for command in range(256):
@@ -424,6 +445,7 @@ class Client:
                 if neighbour:
                     for step in (-2, -1, 0, 1, 2):
                         self.write(name, neighbour[0].held + step)
+                        self.request(download_untold(name.index, name.sub, name.bytes_of(neighbour[0].held + step)))
                     self.restore(name)
         for lowest in self.every_name():
             if lowest.above and not lowest.below:
@@ -463,6 +485,7 @@ class Client:
             self.ends_of_ranges,
             self.constants,
             self.wrong_sizes,
+            self.sizes_not_told,
             self.every_sub,
             self.every_index,
             self.every_command,

@@ -1,8 +1,8 @@
 """Checks the outside check itself, in a few seconds and without the product.
 
 The model must give the paper's counts and bench examples, round as REAL32 does, agree
-with the SDO client's own table of names and pass the client's walk; the examples'
-expected outputs must be the model's.
+with the SDO client's own table of names and pass the client's walk; a request of document 02
+must leave alone what does not touch it; the examples' expected outputs must be the model's.
 
     python3 selfcheck.py [PROGRAM]
 
@@ -18,8 +18,10 @@ import sys
 
 import compare
 import model
+import other_readings
 import program
 import sdo_client
+import sessions
 
 HERE = pathlib.Path(__file__).parent
 
@@ -199,9 +201,27 @@ def check_unanswered():
     return "row 1"
 
 
+# --------------------------------------------------------------------------- Requests
+
+# The lines that touch a request: only with one of them may a session's answers be others than before it.
+TOUCHES = {"ii": lambda line: line.startswith(b"S 22")}
+
+
+def check_requests():
+    """Lines that touch no request, in the sessions of a plan, are answered as without it."""
+    assert tuple(TOUCHES) == model.REQUESTS
+    planned = [[line + b"\n" for line, _ in session] for _, session in sessions.plan("requests", 30000)]
+    for request, touches in TOUCHES.items():
+        before = other_readings.changed_model('"%s",' % request, "")
+        for lines in planned:
+            others = [line for line in lines if not touches(line)]
+            assert list(model.session(others)) == list(before.session(others)), request
+    return "nothing else moves with (%s)" % "), (".join(TOUCHES)
+
+
 def main(arguments):
     path = arguments[0] if arguments else str(HERE / "model.py")
-    checks = (check_counts, check_bench, check_rounding, check_tables_agree, check_unanswered, check_inputs)
+    checks = (check_counts, check_bench, check_rounding, check_tables_agree, check_unanswered, check_inputs, check_requests)
     for check in checks + (check_client,):
         print("good: " + check())
     print("good: " + check_examples(path))

@@ -35,6 +35,11 @@ def write_line(entry, value):
     return frame_line(WRITE_COMMAND[entry.type.size], entry.index, entry.sub, entry.type.form.pack(value))
 
 
+def untold_line(entry, value, junk=b"\xa5\x5a\xff"):
+    """(ii): a write that does not tell its length, something behind the entry's own bytes."""
+    return frame_line(model.UNTOLD, entry.index, entry.sub, (entry.type.form.pack(value) + junk)[:4])
+
+
 def tick_line(samples):
     return b"T %d %d %d %d" % tuple(samples)
 
@@ -646,11 +651,28 @@ class Unit:
                     yield write_line(entry, fit16(neighbour[0].value + step))
         yield read_line(entry)
 
+    def untold_writes(self):
+        """(ii): any writable name by 22h: an end of its range, a step beyond, a neighbour's value, with any bytes behind it."""
+        rng = self.rng
+        for _ in range(rng.randint(1, 4)):
+            entry = rng.choice(self.writable)
+            if entry.type is model.REAL32:
+                value = some_real(rng)
+            else:
+                near = [entry.low, entry.high, entry.low - 1, entry.high + 1, rng.randint(entry.low, entry.high)]
+                near += [neighbour[0].value + rng.randint(-1, 1) for neighbour in (entry.above, entry.below) if neighbour]
+                value = max(entry.type.low, min(entry.type.high, rng.choice(near)))
+            yield untold_line(entry, value, rng.choice((bytes(3), b"\xff\xff\xff", rng.randbytes(3))))
+            if self.chance(50):
+                yield read_line(entry)
+        if self.chance(20):
+            yield frame_line(model.UNTOLD, 0x5010, rng.randint(3, 15), struct.pack("<I", rng.choice(NOT_FINITE)))
+
     def odd_frames(self):
         rng = self.rng
         for _ in range(rng.randint(1, 4)):
             entry = rng.choice(self.names.entries)
-            command = rng.choice((0x23, 0x27, 0x2B, 0x2F, 0x40, 0x40, 0x80, 0x22, 0x21, 0x60, rng.randrange(256)))
+            command = rng.choice((0x23, 0x27, 0x2B, 0x2F, 0x40, 0x40, 0x80, 0x22, 0x22, 0x26, 0x2A, 0x2E, 0x21, 0x60, rng.randrange(256)))
             index = entry.index + rng.choice((0, 0, 0, 0, 1, -1, 0x100))
             sub = rng.choice((entry.sub, entry.sub, 0, 1, 12, 16, 255, rng.randrange(256)))
             data = rng.choice((bytes(4), b"\xff\xff\xff\xff", b"\x00\x00\x80\x7f", rng.randbytes(4)))
@@ -713,6 +735,7 @@ class Unit:
         (2, switched_off_under_a_reader),
         (6, any_write),
         (3, chain_edges),
+        (4, untold_writes),
         (7, odd_frames),
         (9, odd_lines),
     )
@@ -754,9 +777,12 @@ def walk_entry(entry):
     data = entry.type.form.pack(entry.default) + entry.type.padding
     for size in (1, 2, 3, 4):
         yield frame_line(WRITE_COMMAND[size], entry.index, entry.sub, data)
+    yield untold_line(entry, entry.default)
     if entry.writable:
         for value in values_to_try(entry):
             yield write_line(entry, value)
+            yield read_line(entry)
+            yield untold_line(entry, value)
             yield read_line(entry)
         yield write_line(entry, entry.default)
 
@@ -768,12 +794,13 @@ def walk_names(names):
         for sub in sorted(subs):
             yield from walk_entry(subs[sub])
         for sub in (len(subs), 255):  # the first sub that is not there, and the last there could be
-            for command in (0x40, 0x23, 0x2F):
+            for command in (0x40, 0x23, 0x2F, 0x22):
                 yield frame_line(command, index, sub)
         for near in (index - 1, index + 1):
             if near not in names.objects:
                 yield frame_line(0x40, near, 0)
                 yield frame_line(0x2F, near, 1)
+                yield frame_line(0x22, near, 1)
 
 
 def walk_refusals():
@@ -785,6 +812,7 @@ def walk_refusals():
     for bits in NOT_FINITE:
         for sub in (0, 1, 2, 3, 15, 16):
             yield frame_line(0x23, 0x5010, sub, struct.pack("<I", bits))
+            yield frame_line(0x22, 0x5010, sub, struct.pack("<I", bits))
     for index in (0x0000, 0x1000, 0x1018, 0x1F22, 0x3000, 0x3070, 0x4300, 0x4A00, 0xFFFF):
         yield frame_line(0x40, index, 0)
         yield frame_line(0x27, index, 0)
@@ -807,6 +835,7 @@ def walk_chains(names):
             if neighbour:
                 for step in (-1, 0, 1):
                     yield write_line(entry, fit16(neighbour[0].value + step))
+                    yield untold_line(entry, fit16(neighbour[0].value + step))
                 yield write_line(entry, entry.default)
 
 
