@@ -92,15 +92,15 @@ static int32_t reply_with(uint8_t *reply, uint32_t command, uint32_t name, uint3
 int32_t plain_serve(struct plain *s, const uint8_t *frame, size_t frame_length, uint8_t *reply, size_t reply_length)
 {
     const struct row *row;
-    uint32_t head, command, name, sub, code;
+    uint32_t head, command, name, sub, size, code;
     if (frame_length != 8 || reply_length < 8 || frame[0] == 0x80)
         return 0;
     head = load32(frame);
     command = head & 0xFF;
     name = head & 0xFFFFFF00; /* as it stands in a reply */
     sub = head >> 24;
-    /* 23h, 27h, 2Bh, 2Fh write 4, 3, 2, 1 bytes */
-    if (command != 0x40 && (command & 0xF3) != 0x23)
+    /* 23h, 27h, 2Bh, 2Fh write 4, 3, 2, 1 bytes, 22h as many as the entry has */
+    if (command != 0x40 && (command & 0xF3) != 0x23 && command != 0x22)
         return reply_with(reply, 0x80, name, 0x05040001);
     row = find((head & 0xFFFF00) | sub);
     if (row->name >> 8 != (head >> 8 & 0xFFFF))
@@ -112,7 +112,8 @@ int32_t plain_serve(struct plain *s, const uint8_t *frame, size_t frame_length, 
             return reply_with(reply, 0x4F, name, row->largest);
         return reply_with(reply, types[row->type].read, name, word_at(s, row->word + (int32_t)sub) & types[row->type].mask);
     }
-    code = write(s, row, sub, 4 - (command >> 2 & 3), load32(frame + 4));
+    size = command == 0x22 ? types[row->type].size : 4 - (command >> 2 & 3);
+    code = write(s, row, sub, size, load32(frame + 4));
     return reply_with(reply, code ? 0x80 : 0x60, name, code);
 }
 

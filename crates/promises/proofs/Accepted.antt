@@ -15,13 +15,14 @@ use Rattle.dictionary.specs.declared.types.Found.the-variants as found
 use Rattle.entries.specs.Judge.{judged}
 use Rattle.entries.specs.declared.types.Verdict.{Verdict}
 use Rattle.entries.specs.declared.types.Verdict.the-variants as verdict
-use Rattle.sdo.specs.Answers.{size-of, reading, stored, offered, refused, writing, obeyed, silent, answer}
+use Rattle.sdo.specs.Answers.{size-of, reading, stored, offered, refused, length-of, writing, obeyed, silent, answer}
 use Rattle.sdo.specs.Frames.{command-of, index-in, sub-in, data-in}
 use Rattle.sdo.specs.declared.types.Abort.{Abort}
 use Rattle.sdo.specs.declared.types.Answer.{Answer}
 use Rattle.sdo.specs.declared.types.Answer.the-variants.{Silent, Aborted, Value, Written}
 use Rattle.sdo.specs.declared.types.Command.{Command}
 use Rattle.sdo.specs.declared.types.Command.the-variants.{Read, Write, Other}
+use Rattle.sdo.specs.declared.types.Size.{Size}
 use Rattle.sdo.proofs.AnswerLaws.{heard}
 use Rattle.sdo.proofs.ReplyLaws.{written-speaks}
 
@@ -85,13 +86,12 @@ module _ (words frame : List ℕ) (room slot word : ℕ) where
         }
 
     -- rows 3 and 4
-    by-name : (size : ℕ) (f : Found) → find (index-in frame) (sub-in frame) ≡ f
-        → writing words size (data-in size frame) f ≡ Written slot word → Accepted words frame slot word
+    by-name : (size : Size) (f : Found) → find (index-in frame) (sub-in frame) ≡ f → writing words frame size f ≡ Written slot word → Accepted words frame slot word
     unfolding writing refused
     by-name size found.NoIndex f e = absurd (no-abort _ e)
     by-name size found.NoSub f e = absurd (no-abort _ e)
     by-name size (found.Count n) f e = absurd (no-abort _ e)
-    by-name size (found.At s) f e = by-offer s size f e
+    by-name size (found.At s) f e = by-offer s (length-of size (size-of s)) f e
 
     no-read : (f : Found) → reading words f ≡ Written slot word → ⊥
     unfolding reading

@@ -41,6 +41,8 @@ pub demand-2 : Demand-2
 demand-2 =
     record {
       reads-back = Serving.reads-back;
+      size-not-told = Serving.size-not-told;
+      never-for-its-length = Serving.never-for-its-length;
       that-one-entry = Serving.that-one-entry;
       names-apart = OneEach.names-apart;
       slot-named = OneEach.slot-named;

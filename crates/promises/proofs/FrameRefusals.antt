@@ -14,12 +14,18 @@ use Rattle.dictionary.specs.declared.types.Found.the-variants.{NoIndex, NoSub, 
 use Rattle.roles.specs.Roles.{chosen}
 use Rattle.entries.specs.Judge.{within, in-range, in-order, before, judged}
 use Rattle.entries.specs.declared.types.Verdict.the-variants as verdict
-use Rattle.sdo.specs.Answers.{size-of, reading, stored, offered, refused, writing, obeyed, silent, answer}
+use Rattle.roles.specs.Values.{range-of}
+use Rattle.sdo.specs.Answers.{size-of, reading, stored, offered, refused, length-of, writing, obeyed, silent, answer}
 use Rattle.sdo.specs.Frames.{command-of, index-in, sub-in, data-in, code}
 use Rattle.sdo.specs.declared.types.Abort.the-variants as abort
 use Rattle.sdo.specs.declared.types.Answer.{Answer}
 use Rattle.sdo.specs.declared.types.Answer.the-variants.{Silent, Aborted, Written}
-use Rattle.promises.specs.FrameRefusals.{first-match, bytes-written, unknown-index, unknown-sub, read-only, name-rows, frame-rows, good, code-sent, Frames-meet-theirs, Codes-as-listed}
+use Rattle.sdo.specs.declared.types.Size.{Size}
+use Rattle.sdo.specs.declared.types.Size.the-variants.{Told, Untold}
+use Rattle.dictionary.specs.Rows.{width}
+use Rattle.dictionary.specs.declared.types.Kind.{Kind}
+use Rattle.dictionary.specs.declared.types.Kind.the-variants.{Unsigned8, Integer16, Unsigned16, Real32}
+use Rattle.promises.specs.FrameRefusals.{first-match, bytes-written, own-bytes, unknown-index, unknown-sub, read-only, name-rows, frame-rows, good, code-sent, Frames-meet-theirs, Codes-as-listed}
 
 -- ---- rows 7 to 9: the judgement, row by row
 
@@ -43,12 +49,26 @@ module _ (unit : List ℕ) (word : ℕ) where
   read-rows (Count n) = refl
   read-rows (At slot) = refl
 
-  write-rows : (size : ℕ) → ltb 0 size ≡ true → (name : Found) → writing unit size word name ≡ first-match (name-rows unit name size word) (Written (slot-found name) word)
-  unfolding writing refused offered size-of judged in-range within in-order name-rows unknown-index unknown-sub read-only first-match first
-  write-rows size h NoIndex = refl
-  write-rows size h NoSub = refl
-  write-rows size h (Count n) = rw h
-  write-rows size h (At slot) = rw (h, judged-rows)
+-- a write of as many bytes as it tells, or as its entry has
+write-rows : (unit frame : List ℕ) (size : Size) (name : Found) → let n = length-of size (own-bytes name) in
+    ltb 0 n ≡ true → writing unit frame size name ≡ first-match (name-rows unit name n (data-in n frame)) (Written (slot-found name) (data-in n frame))
+unfolding writing refused offered size-of judged in-range within in-order name-rows own-bytes unknown-index unknown-sub read-only first-match first
+write-rows unit frame size NoIndex h = refl
+write-rows unit frame size NoSub h = refl
+write-rows unit frame size (Count n) h = rw h
+write-rows unit frame size (At slot) h = rw (h, judged-rows)
+
+-- every type has some bytes
+some-bytes : (kind : Kind) → ltb 0 (width kind) ≡ true
+unfolding width
+some-bytes Unsigned8 = refl
+some-bytes Integer16 = refl
+some-bytes Unsigned16 = refl
+some-bytes Real32 = refl
+
+own-some : (name : Found) → ltb 0 (own-bytes name) ≡ true
+unfolding own-bytes
+own-some name = some-bytes (range-of (slot-found name) .kind)
 
 -- ---- row 2, and then by the command
 
@@ -59,22 +79,24 @@ module _ (unit frame : List ℕ) where
   -- what the table says from row 2 on, of a command byte
   from-row-2 : ℕ → Answer
   from-row-2 byte =
-      let size = bytes-written byte in
+      let size = bytes-written (own-bytes name) byte in
       first (not (eqb byte 0x40 || ltb 0 size)) (Aborted abort.Command)
       (first-match (name-rows unit name size (data-in size frame)) (first (ltb 0 size) (Written (slot-found name) (data-in size frame)) (reading unit name)))
 
   commanded : (byte : ℕ) → obeyed unit frame (command-of byte) ≡ from-row-2 byte
-  unfolding obeyed command-of bytes-written chosen first name from-row-2
-  commanded byte = go (eqb byte 0x40) (eqb byte 0x23) (eqb byte 0x27) (eqb byte 0x2B) (eqb byte 0x2F) refl refl refl refl refl
+  unfolding obeyed command-of bytes-written chosen first name from-row-2 length-of
+  commanded byte = go (eqb byte 0x40) (eqb byte 0x23) (eqb byte 0x27) (eqb byte 0x2B) (eqb byte 0x2F) (eqb byte 0x22) refl refl refl refl refl refl
     where
-      go : (read four three two one : Bool) → eqb byte 0x40 ≡ read → eqb byte 0x23 ≡ four → eqb byte 0x27 ≡ three → eqb byte 0x2B ≡ two → eqb byte 0x2F ≡ one
+      go : (read four three two one own : Bool)
+          → eqb byte 0x40 ≡ read → eqb byte 0x23 ≡ four → eqb byte 0x27 ≡ three → eqb byte 0x2B ≡ two → eqb byte 0x2F ≡ one → eqb byte 0x22 ≡ own
           → obeyed unit frame (command-of byte) ≡ from-row-2 byte
-      go true four three two one r a b c d = rw (eqb-true byte 0x40 r) (read-rows unit (data-in 0 frame) name)
-      go false true three two one r a b c d = rw (eqb-true byte 0x23 a) (write-rows unit (data-in 4 frame) 4 refl name)
-      go false false true two one r a b c d = rw (eqb-true byte 0x27 b) (write-rows unit (data-in 3 frame) 3 refl name)
-      go false false false true one r a b c d = rw (eqb-true byte 0x2B c) (write-rows unit (data-in 2 frame) 2 refl name)
-      go false false false false true r a b c d = rw (eqb-true byte 0x2F d) (write-rows unit (data-in 1 frame) 1 refl name)
-      go false false false false false r a b c d = rw (r, a, b, c, d)
+      go true four three two one own r a b c d e = rw (eqb-true byte 0x40 r) (read-rows unit (data-in 0 frame) name)
+      go false true three two one own r a b c d e = rw (eqb-true byte 0x23 a) (write-rows unit frame (Told 4) name refl)
+      go false false true two one own r a b c d e = rw (eqb-true byte 0x27 b) (write-rows unit frame (Told 3) name refl)
+      go false false false true one own r a b c d e = rw (eqb-true byte 0x2B c) (write-rows unit frame (Told 2) name refl)
+      go false false false false true own r a b c d e = rw (eqb-true byte 0x2F d) (write-rows unit frame (Told 1) name refl)
+      go false false false false false true r a b c d e = rw (eqb-true byte 0x22 e, own-some name) (write-rows unit frame Untold name (own-some name))
+      go false false false false false false r a b c d e = rw (r, a, b, c, d, e)
 
 pub frames-meet-theirs : Frames-meet-theirs
 unfolding answer silent frame-rows first-match good name from-row-2

@@ -16,9 +16,10 @@ use Rattle.dictionary.specs.declared.types.Found.the-variants.{At}
 use Rattle.dictionary.specs.declared.types.Kind.{Kind}
 use Rattle.dictionary.specs.declared.types.Kind.the-variants.{Unsigned8, Integer16, Unsigned16, Real32}
 use Rattle.entries.specs.Judge.{judged}
-use Rattle.sdo.specs.Answers.{size-of, stored, writing, answer}
+use Rattle.sdo.specs.Answers.{size-of, stored, length-of, answer}
 use Rattle.sdo.specs.Frames.{index-in, sub-in, data-in, command-of}
 use Rattle.sdo.specs.declared.types.Command.the-variants.{Write}
+use Rattle.sdo.specs.declared.types.Size.the-variants.{Told}
 use Rattle.sdo.proofs.AnswerLaws.{fitting, a-write, spoken}
 use Rattle.records.specs.Layout.{Listed, size}
 use Rattle.records.specs.Walk as records
@@ -34,7 +35,7 @@ index-read rest h = sym (ap little (part rest 2 0 (omega arith)))
 
 -- ---- a type's command, by its kind
 
-commands : (kind : Kind) → command-of (write-command (width kind)) ≡ Write (width kind)
+pub commands : (kind : Kind) → command-of (write-command (width kind)) ≡ Write (Told (width kind))
 unfolding command-of write-command width first
 commands Unsigned8 = refl
 commands Integer16 = refl
@@ -42,7 +43,7 @@ commands Unsigned16 = refl
 commands Real32 = refl
 
 -- a write is no abort, and is one byte
-no-abort : (kind : Kind) → (write-command (width kind) < 256) × (write-command (width kind) ≡ 0x80 → ⊥)
+pub no-abort : (kind : Kind) → (write-command (width kind) < 256) × (write-command (width kind) ≡ 0x80 → ⊥)
 unfolding write-command width first
 no-abort Unsigned8 = (omega arith, λ e. omega arith)
 no-abort Integer16 = (omega arith, λ e. omega arith)
@@ -111,15 +112,15 @@ module _ (e : Listed) (rest : List ℕ) (r : Right e rest) where
   command-is : getD (frame-of rest) 0 0 ≡ write-command (size e)
   command-is = ap (λ (f : List ℕ). getD f 0 0) parts
 
-  commanded : command-of (getD (frame-of rest) 0 0) ≡ Write (size e)
+  commanded : command-of (getD (frame-of rest) 0 0) ≡ Write (Told (size e))
   unfolding size
   commanded = ap command-of command-is ∙ commands (e .range .kind)
 
   -- it is judged as a write of the record's data to the slot that has its name
   pub answered : (slot : ℕ) → find (e .index) (e .sub) ≡ At slot → slot < writable → size-of slot ≡ size e → (words : List ℕ) (room : ℕ) → 8 ≤ room
       → answer words (frame-of rest) room ≡ stored slot (records.data-in (size e) rest) (judged words slot (records.data-in (size e) rest))
-  unfolding size writing
+  unfolding size length-of
   answered slot found below own words room h =
       sym (spoken words (frame-of rest) room eight h (λ a. no-abort (e .range .kind) .1 (sym command-is ∙ a)))
-      ∙ sym (a-write words (frame-of rest) (Write (size e)) (sym commanded) (e .index) (e .sub) (At slot) (sym index-is) (sym sub-is) (sym found) (size e) (records.data-in (size e) rest) refl (sym data-is))
-      ∙ sym (fitting words slot (size e) (records.data-in (size e) rest) below (size e) (sym own) (omega arith) (omega arith))
+      ∙ sym (a-write words (frame-of rest) (Write (Told (size e))) (sym commanded) (e .index) (e .sub) (At slot) (sym index-is) (sym sub-is) (sym found) (Told (size e)) refl)
+      ∙ sym (fitting words (frame-of rest) (Told (size e)) slot below (size e) (size e) (sym own) refl refl (records.data-in (size e) rest) (sym data-is))

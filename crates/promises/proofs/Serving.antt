@@ -1,32 +1,47 @@
 -- The promises of frames.
 -- Assumes nothing.
 use mathlib.Core.Path.{_≡_, refl, sym, ap, _∙_, subst}
+use mathlib.Core.Bool.{Bool, true, _&&_, not, and-eq-true-iff}
 use mathlib.Core.List.{List, _∷_, _++_}
 use Prim.Native.Nat.{ℕ, _-_}
 use native.Mathlib.Omega.{arith}
 use lib.ListN.{length, getD, set, take, drop, replicate, length-drop}
+use lib.Dec.{eqb, ltb}
 use lib.Seq.{getD-set-other}
+use borrow.Author.Tests.{le-ltb, ne-eqb, eqb-false, not-true}
 use Rattle.numbers.specs.Choice.{first}
+use Rattle.numbers.proofs.Choices.{chosen}
+use Rattle.dictionary.specs.Names.{find, writable}
+use Rattle.dictionary.specs.Rows.{width}
 use Rattle.dictionary.specs.Unit.{unit-size}
-use Rattle.dictionary.specs.declared.types.Found.the-variants.{At}
+use Rattle.dictionary.specs.declared.types.Found.{Found}
+use Rattle.dictionary.specs.declared.types.Found.the-variants as found
 use Rattle.dictionary.proofs.naming.NameLaws.{counted}
 use Rattle.dictionary.proofs.OneEach.{names-apart}
+use Rattle.entries.specs.Judge.{judged}
 use Rattle.entries.specs.Valid.{Valid}
+use Rattle.entries.specs.declared.types.Verdict.{Verdict}
+use Rattle.entries.specs.declared.types.Verdict.the-variants as verdict
+use Rattle.roles.specs.Values.{range-of}
 use Rattle.entries.proofs.Start.{valid-at-start}
-use Rattle.sdo.specs.Answers.{reading, offered, writing, obeyed, silent, answer}
-use Rattle.sdo.specs.Frames.{index-in, sub-in, reply, name-in, data-in, command-of, read-command, reply-to}
+use Rattle.sdo.specs.Answers.{size-of, reading, stored, offered, refused, length-of, writing, obeyed, silent, answer}
+use Rattle.sdo.specs.Frames.{index-in, sub-in, code, reply, name-in, data-in, command-of, read-command, reply-to}
+use Rattle.sdo.specs.declared.types.Abort.the-variants as abort
 use Rattle.sdo.specs.declared.types.Answer.{Answer}
 use Rattle.sdo.specs.declared.types.Answer.the-variants.{Silent, Aborted, Value, Written}
 use Rattle.sdo.specs.declared.types.Command.{Command}
 use Rattle.sdo.specs.declared.types.Command.the-variants.{Read, Write, Other}
+use Rattle.sdo.specs.declared.types.Size.the-variants.{Untold}
 use Rattle.sdo.specs.Served.{after, filled}
 use Rattle.octets.specs.Little.{bytes, Bytes}
 use Rattle.sdo.proofs.AnswerLaws.{heard}
 use Rattle.sdo.proofs.ReplyLaws.{abort-speaks, value-speaks, written-speaks}
-use Rattle.promises.specs.Serving.{Untouched, First-eight-only, That-one-entry, Determined, Reads-back, Stays-valid, Decided-by-configuration}
+use Rattle.promises.specs.Serving.{Untouched, First-eight-only, That-one-entry, Determined, Reads-back, Size-not-told, Never-for-its-length, Stays-valid, Decided-by-configuration}
 use Rattle.promises.proofs.Accepted.{accepted}
 use Rattle.promises.proofs.Judged.{judged-same}
+use Rattle.promises.specs.Delivery.{write-command}
 use Rattle.promises.proofs.ReadBack.{reply-back}
+use Rattle.promises.proofs.RecordFrames.{commands, no-abort}
 use Rattle.promises.proofs.Writing.{still-valid}
 
 pub untouched : Untouched
@@ -51,7 +66,7 @@ that-one-entry unit frame room slot word e =
     let a = accepted unit frame room slot word e in
     record {
       own = a .found;
-      others = λ index sub other f different. getD-set-other unit slot other word 0 (λ q. different (names-apart index sub (index-in frame) (sub-in frame) slot (f ∙ ap At q) (a .found)));
+      others = λ index sub other f different. getD-set-other unit slot other word 0 (λ q. different (names-apart index sub (index-in frame) (sub-in frame) slot (f ∙ ap found.At q) (a .found)));
       remembered = λ k h. getD-set-other unit slot k word 0 (λ q. omega (arith, a .below, counted));
     }
 
@@ -75,6 +90,50 @@ unfolding after
 reads-back words frame room slot word l b e query eight r n =
     reply-back words frame slot word (accepted words frame room slot word e) b l query eight r n
 
+pub size-not-told : Size-not-told
+unfolding answer silent obeyed command-of index-in sub-in data-in writing length-of size-of first
+size-not-told unit rest room slot f =
+    let kind = range-of slot .kind in rw (f, commands kind, ne-eqb (write-command (width kind)) 0x80 (no-abort kind .1), f)
+
+-- an answer that is no abort of orders 2 and 6
+clear : Answer → Bool
+clear Silent = true
+clear (Aborted a) = not (eqb (code a) 0x05040001) && (not (eqb (code a) 0x06070012) && not (eqb (code a) 0x06070013))
+clear (Value w n) = true
+clear (Written k w) = true
+
+pub never-for-its-length : Never-for-its-length
+unfolding answer obeyed command-of writing length-of offered refused stored first clear code
+never-for-its-length unit rest room a e =
+    let three = and-eq-true-iff _ _ .0 (ap clear (sym e) ∙ spoken) in
+    let two = and-eq-true-iff _ _ .0 (three .1) in
+    (differs (three .0), differs (two .0), differs (two .1))
+  where
+    differs : {m n : ℕ} → not (eqb m n) ≡ true → m ≡ n → ⊥
+    differs {m} {n} t = eqb-false m n (not-true (eqb m n) t)
+
+    either : (test : Bool) (x y : Answer) → clear x ≡ true → clear y ≡ true → clear (first test x y) ≡ true
+    either test x y p q = chosen (λ r. clear r ≡ true) test x y (λ t. p) (λ t. q)
+
+    by-verdict : (slot word : ℕ) (v : Verdict) → clear (stored slot word v) ≡ true
+    by-verdict slot word verdict.Good = refl
+    by-verdict slot word verdict.NotFinite = refl
+    by-verdict slot word verdict.Above = refl
+    by-verdict slot word verdict.Below = refl
+    by-verdict slot word verdict.ChainUp = refl
+    by-verdict slot word verdict.ChainDown = refl
+
+    by-name : (f : Found) → clear (writing unit (0x22 ∷ rest) Untold f) ≡ true
+    by-name found.NoIndex = refl
+    by-name found.NoSub = refl
+    by-name (found.Count n) = refl
+    by-name (found.At slot) =
+        either (not (ltb slot writable)) (Aborted abort.ReadOnly) _ refl
+        (rw (le-ltb (size-of slot) (size-of slot) (omega arith)) (by-verdict slot _ (judged unit slot (data-in (size-of slot) (0x22 ∷ rest)))))
+
+    spoken : clear (answer unit (0x22 ∷ rest) room) ≡ true
+    spoken = either (silent (0x22 ∷ rest) room) Silent _ refl (by-name (find (index-in (0x22 ∷ rest)) (sub-in (0x22 ∷ rest))))
+
 pub decided-by-configuration : Decided-by-configuration
 unfolding answer obeyed reading writing offered
 decided-by-configuration words other frame room slot same f h =
@@ -82,5 +141,5 @@ decided-by-configuration words other frame room slot same f h =
   where
     by : (c : Command) → obeyed words frame c ≡ obeyed other frame c
     by Read = rw (f, same slot h)
-    by (Write size) = rw (f, judged-same words other (λ k l. same k l) slot (data-in size frame) h)
+    by (Write size) = rw (f, judged-same words other (λ k l. same k l) slot (data-in (length-of size (size-of slot)) frame) h)
     by Other = refl

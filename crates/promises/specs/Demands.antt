@@ -12,7 +12,7 @@ use Rattle.controller.specs.Off.{Math-off, Math-error, Table-passes, Logic-off}
 use Rattle.controller.specs.TickLaws.{Words-kept, Register-told, Flags-unwritten, Register-unwritten}
 use Rattle.promises.specs.Trap.{Out-of-the-trap}
 use Rattle.controller.specs.Turns.{Seen-by, Sourced-by}
-use Rattle.promises.specs.Serving.{Untouched, First-eight-only, That-one-entry, Determined, Reads-back, Stays-valid, Decided-by-configuration}
+use Rattle.promises.specs.Serving.{Untouched, First-eight-only, That-one-entry, Determined, Reads-back, Size-not-told, Never-for-its-length, Stays-valid, Decided-by-configuration}
 
 -- "1. Every frame, image and sample is taken. Bad input meets its listed refusal, and after a refusal the controller and the lent buffers hold what they
 -- held before, save for an abort frame where a reply is due. Each call ends, and no caller has to look first."
@@ -53,6 +53,9 @@ pub record Demand-1 : Type 0 where
 pub record Demand-2 : Type 0 where
   -- "Frames answer as DS-301 expedited transfer says": what is written is read back, by its name
   pub reads-back : Reads-back
+  -- a write that does not tell its size has the entry's own, and is never refused for it
+  pub size-not-told : Size-not-told
+  pub never-for-its-length : Never-for-its-length
   -- "An accepted write changes that one entry"
   pub that-one-entry : That-one-entry
   -- no two names share a slot, every slot has a name, and no two slots share one

@@ -28,9 +28,14 @@ unfoldable pub first-match : {A : Type 0} → List (Bool × A) → A → A
 first-match [] other = other
 first-match (row ∷ rows) other = first (row .0) (row .1) (first-match rows other)
 
--- "Writes of 4, 3, 2, 1 bytes are 23h, 27h, 2Bh, 2Fh": how many bytes a command writes; none, if it is no write
-unfoldable pub bytes-written : ℕ → ℕ
-bytes-written command = chosen ((0x23, 4) ∷ (0x27, 3) ∷ (0x2B, 2) ∷ (0x2F, 1) ∷ []) 0 command
+-- "Writes of 4, 3, 2, 1 bytes are 23h, 27h, 2Bh, 2Fh"; 22h, "size not told. The length is then the entry's own": how many bytes a command writes
+-- to an entry that has so many; none, if it is no write
+unfoldable pub bytes-written : ℕ → ℕ → ℕ
+bytes-written own command = chosen ((0x23, 4) ∷ (0x27, 3) ∷ (0x2B, 2) ∷ (0x2F, 1) ∷ (0x22, own) ∷ []) 0 command
+
+-- the bytes of the type of what a name stands for
+unfoldable pub own-bytes : Found → ℕ
+own-bytes name = width (range-of (slot-found name) .kind)
 
 -- what a name stands for may be nothing: no object has the index, or the object no such sub
 unfoldable pub unknown-index : Found → Bool
@@ -58,7 +63,7 @@ name-rows unit name size word =
     let write = ltb 0 size in
     let slot = slot-found name in
     let range = range-of slot in
-    let own = width (range .kind) in
+    let own = own-bytes name in
     let value = number-of (range .kind) word in
     -- "3 | index unknown | 06020000h"
     (unknown-index name, Aborted abort.NoIndex)
@@ -83,18 +88,19 @@ name-rows unit name size word =
 unfoldable pub frame-rows : List ℕ → List ℕ → ℕ → List (Bool × Answer)
 frame-rows unit frame room =
     let command = getD frame 0 0 in
-    let size = bytes-written command in
+    let name = find (index-in frame) (sub-in frame) in
+    let size = bytes-written (own-bytes name) command in
     -- "1 | frame not 8 long, reply buffer under 8, or command 80h | no reply, buffer untouched"
     (not (eqb (length frame) 8) || (ltb room 8 || eqb command 0x80), Silent)
     -- "2 | other command byte | 05040001h"; "a read is 40h"
     ∷ (not (eqb command 0x40 || ltb 0 size), Aborted abort.Command)
-    ∷ name-rows unit (find (index-in frame) (sub-in frame)) size (data-in size frame)
+    ∷ name-rows unit name size (data-in size frame)
 
 -- the answer to a good frame: what is written is stored in its entry's word, or what is read is sent
 unfoldable pub good : List ℕ → List ℕ → Answer
 good unit frame =
-    let size = bytes-written (getD frame 0 0) in
     let name = find (index-in frame) (sub-in frame) in
+    let size = bytes-written (own-bytes name) (getD frame 0 0) in
     first (ltb 0 size) (Written (slot-found name) (data-in size frame)) (reading unit name)
 
 -- so is answered any frame to any unit, with any room for the reply

@@ -16,6 +16,7 @@ use Rattle.sdo.specs.declared.types.Abort.{Abort}
 use Rattle.sdo.specs.declared.types.Answer.{Answer}
 use Rattle.sdo.specs.declared.types.Answer.the-variants.{Silent, Aborted, Written}
 use Rattle.sdo.specs.Served.{Served, after}
+use Rattle.promises.specs.Delivery.{write-command}
 
 -- "after a refusal the controller and the lent buffers hold what they held before, save for an abort frame where a reply is due":
 -- "no reply, buffer untouched"; an abort changes no state, and the buffer begins with "80h, name as received, code"
@@ -53,6 +54,18 @@ Reads-back =
     → (query : List ℕ) → length query ≡ 8 → getD query 0 0 ≡ 0x40 → name-in query ≡ name-in frame
     → reply-to query (answer (after unit (Written slot word)) query 8)
     ≡ read-command (size-of slot) ∷ name-in frame ++ take (size-of slot) (drop 4 frame) ++ replicate (4 - size-of slot) 0
+
+-- "command 22h .. size not told. The length is then the entry's own, the first bytes count and the rest is ignored": it is answered as the write with the same bytes that tells that length
+abbrev pub Size-not-told : Type 0
+Size-not-told =
+    (unit rest : List ℕ) (room slot : ℕ) → find (index-in (0x22 ∷ rest)) (sub-in (0x22 ∷ rest)) ≡ At slot
+    → answer unit (0x22 ∷ rest) room ≡ answer unit (write-command (size-of slot) ∷ rest) room
+
+-- "order 2 no longer covers 22h; order 6 never arises for it", whatever it names
+abbrev pub Never-for-its-length : Type 0
+Never-for-its-length =
+    (unit rest : List ℕ) (room : ℕ) (a : Abort) → answer unit (0x22 ∷ rest) room ≡ Aborted a
+    → (code a ≡ 0x05040001 → ⊥) × (code a ≡ 0x06070012 → ⊥) × (code a ≡ 0x06070013 → ⊥)
 
 -- "Chains, true at all times": at start, and after every frame
 abbrev pub Stays-valid : Type 0

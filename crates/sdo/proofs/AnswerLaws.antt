@@ -1,23 +1,25 @@
 -- What the parts of an answer come to.
 -- Assumes nothing.
 use mathlib.Core.Path.{_≡_, refl, sym, ap, _∙_}
-use mathlib.Core.Bool.{Bool, true, false, _&&_, and-eq-true-iff}
+use mathlib.Core.Bool.{Bool, true, false}
 use mathlib.Core.List.{List, [], _∷_}
 use Prim.Native.Nat.{ℕ, _<_, _≤_}
 use native.Mathlib.Omega.{arith}
-use lib.Dec.{eqb, ltb, leb}
+use lib.Dec.{eqb, ltb}
 use lib.ListN.{length, getD}
 use denote.Enum.Declared.{tagOf}
 use types.Run.{OneOf, miss}
-use borrow.Author.Tests.{lt-ltb, le-ltb, eq-eqb, ne-eqb, leb-true, eqb-true, eqb-false, ltb-true, ltb-false}
+use borrow.Author.Tests.{lt-ltb, le-ltb, eq-eqb, ne-eqb, eqb-true, eqb-false, ltb-true, ltb-false}
 use Rattle.numbers.specs.Choice.{first}
 use Rattle.dictionary.specs.Names.{find, slot-found, words, writable}
 use Rattle.dictionary.specs.Unit.{unit-size}
+use Rattle.roles.specs.Values.{range-of}
+use Rattle.roles.proofs.widths.WidthLaws.{at-least-one, at-most-four, never-three}
 use Rattle.dictionary.specs.declared.types.Found.{Found}
 use Rattle.dictionary.specs.declared.types.Found.the-variants as found
 use Rattle.dictionary.proofs.naming.NameLaws.{found-below}
 use Rattle.entries.specs.Judge.{judged}
-use Rattle.sdo.specs.Answers.{size-of, reading, stored, offered, refused, writing, obeyed, silent, answer}
+use Rattle.sdo.specs.Answers.{size-of, reading, stored, offered, refused, length-of, writing, obeyed, silent, answer}
 use Rattle.sdo.specs.Frames.{command-of, index-in, sub-in, data-in}
 use Rattle.sdo.specs.declared.types.Abort.the-variants as abort
 use Rattle.sdo.specs.declared.types.Answer.{Answer}
@@ -25,26 +27,32 @@ use Rattle.sdo.specs.declared.types.Answer.the-variants.{Silent, Aborted
 use Rattle.dictionary.proofs.types.Found as FoundType
 use Rattle.sdo.specs.declared.types.Command.{Command}
 use Rattle.sdo.specs.declared.types.Command.the-variants.{Read, Write, Other}
+use Rattle.sdo.specs.declared.types.Size.{Size}
 
 -- ---- rows 5 to 9, for a slot
 
-module _ (words : List ℕ) (slot size word : ℕ) where
-  pub read-only : writable ≤ slot → Aborted abort.ReadOnly ≡ offered words slot size word
-  unfolding offered first
+-- as many bytes as a type can have
+pub own-bytes : (slot : ℕ) {own : ℕ} → own ≡ size-of slot → (1 ≤ own) × (own ≤ 4) × (own ≡ 3 → ⊥)
+unfolding size-of
+own-bytes slot e = let kind = range-of slot .kind in rw e (at-least-one kind, at-most-four kind, never-three kind)
+
+module _ (words frame : List ℕ) (size : Size) (slot : ℕ) where
+  pub read-only : writable ≤ slot → Aborted abort.ReadOnly ≡ writing words frame size (found.At slot)
+  unfolding writing offered first
   read-only h = simp (le-ltb slot writable h)
 
-  module _ (h : slot < writable) (own : ℕ) (e : own ≡ size-of slot) where
-    pub too-long : own < size → Aborted abort.TooLong ≡ offered words slot size word
-    unfolding offered first
-    too-long l = simp (lt-ltb slot writable h, ← e, lt-ltb own size l)
+  module _ (h : slot < writable) (own n : ℕ) (e : own ≡ size-of slot) (told : n ≡ length-of size own) where
+    pub too-long : own < n → Aborted abort.TooLong ≡ writing words frame size (found.At slot)
+    unfolding writing offered first
+    too-long l = simp (lt-ltb slot writable h, ← e, ← told, lt-ltb own n l)
 
-    pub too-short : size < own → Aborted abort.TooShort ≡ offered words slot size word
-    unfolding offered first
-    too-short l = simp (lt-ltb slot writable h, ← e, le-ltb own size (omega arith), lt-ltb size own l)
+    pub too-short : n < own → Aborted abort.TooShort ≡ writing words frame size (found.At slot)
+    unfolding writing offered first
+    too-short l = simp (lt-ltb slot writable h, ← e, ← told, le-ltb own n (omega arith), lt-ltb n own l)
 
-    pub fitting : own ≤ size → size ≤ own → stored slot word (judged words slot word) ≡ offered words slot size word
-    unfolding offered first
-    fitting l m = simp (lt-ltb slot writable h, ← e, le-ltb own size m, le-ltb size own l)
+    pub fitting : n ≡ own → (word : ℕ) → word ≡ data-in own frame → stored slot word (judged words slot word) ≡ writing words frame size (found.At slot)
+    unfolding writing offered first
+    fitting same word d = simp (lt-ltb slot writable h, ← e, ← told, same, le-ltb own own (omega arith), ← d)
 
 -- ---- a name that is found stands in the unit
 
@@ -57,38 +65,14 @@ found-in-unit index sub f e = let h = found-below index sub f e in omega arith
 
 -- ---- a name that is no entry's: told by the case's number
 
-pub no-entry : (words : List ℕ) (size word : ℕ) (f : Found) → OneOf (0 ∷ 1 ∷ 2 ∷ []) (tagOf FoundType.the-type f) → refused f ≡ writing words size word f
+pub no-entry : (words frame : List ℕ) (size : Size) (f : Found) → OneOf (0 ∷ 1 ∷ 2 ∷ []) (tagOf FoundType.the-type f) → refused f ≡ writing words frame size f
 unfolding writing
-no-entry words size word found.NoIndex k = refl
-no-entry words size word found.NoSub k = refl
-no-entry words size word (found.Count n) k = refl
-no-entry words size word (found.At slot) k = absurd (miss (0 ∷ 1 ∷ 2 ∷ []) 3 tt k)
+no-entry words frame size found.NoIndex k = refl
+no-entry words frame size found.NoSub k = refl
+no-entry words frame size (found.Count n) k = refl
+no-entry words frame size (found.At slot) k = absurd (miss (0 ∷ 1 ∷ 2 ∷ []) 3 tt k)
 
 -- ---- the command
-
--- a write has 1 to 4 bytes
-sized : Command → Bool
-sized Read = true
-sized (Write size) = leb 1 size && leb size 4
-sized Other = true
-
-either : (b : Bool) (x y : Command) → sized x ≡ true → sized y ≡ true → sized (first b x y) ≡ true
-unfolding first
-either true x y p q = p
-either false x y p q = q
-
-always-sized : (byte : ℕ) → sized (command-of byte) ≡ true
-unfolding command-of sized
-always-sized byte =
-    either (eqb byte 0x40) Read _ refl (either (eqb byte 0x23) (Write 4) _ refl (either (eqb byte 0x27) (Write 3) _ refl
-    (either (eqb byte 0x2B) (Write 2) _ refl (either (eqb byte 0x2F) (Write 1) Other refl refl))))
-
-pub write-sizes : (byte size : ℕ) (c : Command) → c ≡ command-of byte → c ≡ Write size → (1 ≤ size) × (size ≤ 4)
-unfolding sized
-write-sizes byte size c e q =
-    let t : sized (Write size) ≡ true = ap sized (sym q ∙ e) ∙ always-sized byte in
-    let both = and-eq-true-iff (leb 1 size) (leb size 4) .0 t in
-    (leb-true 1 size (both .0), leb-true size 4 (both .1))
 
 module _ (words frame : List ℕ) (c : Command) (e : c ≡ command-of (getD frame 0 0)) where
   pub other-command : c ≡ Other → Aborted abort.Command ≡ obeyed words frame (command-of (getD frame 0 0))
@@ -103,9 +87,9 @@ module _ (words frame : List ℕ) (c : Command) (e : c ≡ command-of (getD fram
     unfolding obeyed
     a-read q = rw (← e, q, named-is)
 
-    pub a-write : (size word : ℕ) → c ≡ Write size → word ≡ data-in size frame → writing words size word f ≡ obeyed words frame (command-of (getD frame 0 0))
+    pub a-write : (size : Size) → c ≡ Write size → writing words frame size f ≡ obeyed words frame (command-of (getD frame 0 0))
     unfolding obeyed
-    a-write size word q d = rw (← e, q, d, named-is)
+    a-write size q = rw (← e, q, named-is)
 
 -- ---- row 1
 

@@ -26,10 +26,6 @@ module _ (frame : List ℕ) (e : length frame ≡ 8) (size : ℕ) where
   unfolding data-in little
   data-2 s = rw (s, data-bytes frame e) (omega arith)
 
-  pub data-3 : size ≡ 3 → little (getD frame 4 0 ∷ getD frame 5 0 ∷ getD frame 6 0 ∷ 0 ∷ []) ≡ data-in size frame
-  unfolding data-in little
-  data-3 s = rw (s, data-bytes frame e)
-
   pub data-4 : size ≡ 4 → little (getD frame 4 0 ∷ getD frame 5 0 ∷ getD frame 6 0 ∷ getD frame 7 0 ∷ []) ≡ data-in size frame
   unfolding data-in little
   data-4 s = rw (s, data-bytes frame e) (omega arith)

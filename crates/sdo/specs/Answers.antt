@@ -21,6 +21,8 @@ use Rattle.sdo.specs.declared.types.Answer.{Answer}
 use Rattle.sdo.specs.declared.types.Answer.the-variants.{Silent, Aborted, Value, Written}
 use Rattle.sdo.specs.declared.types.Command.{Command}
 use Rattle.sdo.specs.declared.types.Command.the-variants.{Read, Write, Other}
+use Rattle.sdo.specs.declared.types.Size.{Size}
+use Rattle.sdo.specs.declared.types.Size.the-variants.{Told, Untold}
 
 -- the bytes of a slot's type
 unfoldable pub size-of : ℕ → ℕ
@@ -56,17 +58,23 @@ refused found.NoSub = Aborted abort.NoSub
 refused (found.Count n) = Aborted abort.ReadOnly
 refused (found.At slot) = Aborted abort.ReadOnly
 
-unfoldable pub writing : List ℕ → ℕ → ℕ → Found → Answer
-writing words size word found.NoIndex = refused found.NoIndex
-writing words size word found.NoSub = refused found.NoSub
-writing words size word (found.Count n) = refused (found.Count n)
-writing words size word (found.At slot) = offered words slot size word
+-- how many bytes a write has, to an entry that has so many: as many as it tells, and where it tells none "The length is then the entry's own"
+unfoldable pub length-of : Size → ℕ → ℕ
+length-of (Told n) own = n
+length-of Untold own = own
+
+-- "the first bytes count and the rest is ignored"
+unfoldable pub writing : List ℕ → List ℕ → Size → Found → Answer
+writing words frame size found.NoIndex = refused found.NoIndex
+writing words frame size found.NoSub = refused found.NoSub
+writing words frame size (found.Count n) = refused (found.Count n)
+writing words frame size (found.At slot) = let length = length-of size (size-of slot) in offered words slot length (data-in length frame)
 
 -- "2 other command byte", then by the command
 unfoldable pub obeyed : List ℕ → List ℕ → Command → Answer
 obeyed words frame Other = Aborted abort.Command
 obeyed words frame Read = reading words (find (index-in frame) (sub-in frame))
-obeyed words frame (Write size) = writing words size (data-in size frame) (find (index-in frame) (sub-in frame))
+obeyed words frame (Write size) = writing words frame size (find (index-in frame) (sub-in frame))
 
 -- "1 frame not 8 long, reply buffer under 8, or command 80h: no reply"
 unfoldable pub silent : List ℕ → ℕ → Bool

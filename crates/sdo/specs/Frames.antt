@@ -12,6 +12,7 @@ use Rattle.sdo.specs.declared.types.Answer.{Answer}
 use Rattle.sdo.specs.declared.types.Answer.the-variants.{Silent, Aborted, Value, Written}
 use Rattle.sdo.specs.declared.types.Command.{Command}
 use Rattle.sdo.specs.declared.types.Command.the-variants.{Read, Write, Other}
+use Rattle.sdo.specs.declared.types.Size.the-variants.{Told, Untold}
 
 -- the parts of a frame
 unfoldable pub index-in : List ℕ → ℕ
@@ -28,14 +29,15 @@ name-in frame = getD frame 1 0 ∷ getD frame 2 0 ∷ getD frame 3 0 ∷ []
 unfoldable pub data-in : ℕ → List ℕ → ℕ
 data-in size frame = little (take size (drop 4 frame))
 
--- "Writes of 4, 3, 2, 1 bytes are 23h, 27h, 2Bh, 2Fh; a read is 40h. No other DS-301 command is taken"
+-- "Writes of 4, 3, 2, 1 bytes are 23h, 27h, 2Bh, 2Fh; a read is 40h"; "command 22h, which DS-301 allows: expedited, size not told". "No other DS-301 command is taken"
 unfoldable pub command-of : ℕ → Command
 command-of byte =
     first (eqb byte 0x40) Read
-    (first (eqb byte 0x23) (Write 4)
-    (first (eqb byte 0x27) (Write 3)
-    (first (eqb byte 0x2B) (Write 2)
-    (first (eqb byte 0x2F) (Write 1) Other))))
+    (first (eqb byte 0x23) (Write (Told 4))
+    (first (eqb byte 0x27) (Write (Told 3))
+    (first (eqb byte 0x2B) (Write (Told 2))
+    (first (eqb byte 0x2F) (Write (Told 1))
+    (first (eqb byte 0x22) (Write Untold) Other)))))
 
 -- the paper's number for each abort
 unfoldable pub code : Abort → ℕ

@@ -4,6 +4,7 @@ ghost use Prim.Native.Nat.{_≤_};
 ghost use lib.ListN.{length};
 ghost use Rattle.sdo.specs.Frames.{index-in, sub-in, data-in, command-of};
 use super::types::Command;
+use super::types::Size;
 use octets::little::four;
 use octets::little::two;
 
@@ -21,19 +22,16 @@ pub fn sub_in(frame: &[u8]) -> u8
     frame[3]
 }
 
-// The first data bytes, so many.
+// The first data bytes, as many as a type has.
 pub fn data_in(frame: &[u8], size: u8) -> u32
-    requires { ⌜ (length (now frame) ≡ 8) × (1 ≤ size) × (size ≤ 4) ⌝ }
+    requires { ⌜ (length (now frame) ≡ 8) × (1 ≤ size) × (size ≤ 4) × (size ≡ 3 → ⊥) ⌝ }
     ensures { λ r. ⌜ r ≡ data-in size (now (frame .entry)) ⌝ }
 {
-    if size == 1 {
-        return four(frame[4], 0, 0, 0);
-    }
     if size == 2 {
         return four(frame[4], frame[5], 0, 0);
     }
-    if size == 3 {
-        return four(frame[4], frame[5], frame[6], 0);
+    if size == 1 {
+        return four(frame[4], 0, 0, 0);
     }
     four(frame[4], frame[5], frame[6], frame[7])
 }
@@ -45,16 +43,19 @@ pub fn command(byte: u8) -> Command
         return Command::Read;
     }
     if byte == 0x23 {
-        return Command::Write(4);
+        return Command::Write(Size::Told(4));
     }
     if byte == 0x27 {
-        return Command::Write(3);
+        return Command::Write(Size::Told(3));
     }
     if byte == 0x2B {
-        return Command::Write(2);
+        return Command::Write(Size::Told(2));
     }
     if byte == 0x2F {
-        return Command::Write(1);
+        return Command::Write(Size::Told(1));
+    }
+    if byte == 0x22 {
+        return Command::Write(Size::Untold);
     }
     Command::Other
 }

@@ -4,7 +4,7 @@ ghost use Prim.Native.Nat.{_<_};
 ghost use lib.ListN.{length, getD};
 ghost use Rattle.dictionary.specs.Names.{slot-found};
 ghost use Rattle.dictionary.specs.Unit.{unit-size};
-ghost use Rattle.sdo.specs.Answers.{reading, stored, offered, refused, writing, obeyed, answer};
+ghost use Rattle.sdo.specs.Answers.{reading, stored, length-of, refused, writing, obeyed, answer};
 ghost use Rattle.sdo.specs.Frames.{command-of};
 use super::data::command;
 use super::data::data_in;
@@ -13,6 +13,7 @@ use super::data::sub_in;
 use super::types::Abort;
 use super::types::Answer;
 use super::types::Command;
+use super::types::Size;
 use dictionary::naming::find;
 use dictionary::slots::ERROR_REGISTER;
 use dictionary::slots::Unit;
@@ -46,20 +47,33 @@ fn store(slot: usize, word: u32, verdict: Verdict) -> Answer
     }
 }
 
-fn offer(unit: &Unit, slot: usize, length: u8, word: u32) -> Answer
-    ensures { λ r. ⌜ r ≡ offered (now (unit .entry)) slot length word ⌝ }
+// A write that does not tell its length has the entry's own.
+fn length_of(size: Size, own: u8) -> u8
+    ensures { λ r. ⌜ r ≡ length-of size own ⌝ }
+{
+    match size {
+        Size::Told(n) => n,
+        Size::Untold => own,
+    }
+}
+
+fn offer(unit: &Unit, frame: &[u8], size: Size, slot: usize) -> Answer
+    requires { ⌜ length (now frame) ≡ 8 ⌝ }
+    ensures { λ r. ⌜ r ≡ writing (now (unit .entry)) (now (frame .entry)) size (Found.At slot) ⌝ }
 {
     // the configuration and the EC values come first
     if ERROR_REGISTER <= slot {
         return Answer::Aborted(Abort::ReadOnly);
     }
     let own = width(slot);
-    if own < length {
-        return Answer::Aborted(Abort::TooLong);
-    }
-    if length < own {
+    let length = length_of(size, own);
+    if length != own {
+        if own < length {
+            return Answer::Aborted(Abort::TooLong);
+        }
         return Answer::Aborted(Abort::TooShort);
     }
+    let word = data_in(frame, own);
     store(slot, word, judge(unit, slot, word))
 }
 
@@ -75,13 +89,14 @@ fn refuse(found: Found) -> Answer
     }
 }
 
-fn write(unit: &Unit, length: u8, word: u32, found: Found) -> Answer
-    ensures { λ r. ⌜ r ≡ writing (now (unit .entry)) length word found ⌝ }
+fn write(unit: &Unit, frame: &[u8], size: Size, found: Found) -> Answer
+    requires { ⌜ length (now frame) ≡ 8 ⌝ }
+    ensures { λ r. ⌜ r ≡ writing (now (unit .entry)) (now (frame .entry)) size found ⌝ }
 {
     let Found::At(slot) = found else {
         return refuse(found);
     };
-    offer(unit, slot, length, word)
+    offer(unit, frame, size, slot)
 }
 
 fn obey(unit: &Unit, frame: &[u8]) -> Answer
@@ -93,7 +108,7 @@ fn obey(unit: &Unit, frame: &[u8]) -> Answer
     match command {
         Command::Other => Answer::Aborted(Abort::Command),
         Command::Read => read(unit, found),
-        Command::Write(size) => write(unit, size, data_in(frame, size), found),
+        Command::Write(size) => write(unit, frame, size, found),
     }
 }
 

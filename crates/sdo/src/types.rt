@@ -24,9 +24,15 @@ pub enum Answer {
     Written(usize, u32),
 }
 
-// A command byte: a read, a write of so many bytes, or neither.
+// What a write's command tells of its length: so many bytes, or nothing.
+pub enum Size {
+    Told(u8),
+    Untold,
+}
+
+// A command byte: a read, a write, or neither.
 pub enum Command {
     Read,
-    Write(u8),
+    Write(Size),
     Other,
 }

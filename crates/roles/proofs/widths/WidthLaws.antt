@@ -67,13 +67,20 @@ two-wide {role} l = go (decLt role 12)
     go (yes h) = let e : role ≡ 11 = omega arith in rw e
     go (no n) = ap width (kind-whole {role = role} (omega arith))
 
--- a type has one to four bytes
+-- a type has one to four bytes, and not three
 pub at-least-one : (kind : Kind) → 1 ≤ width kind
 unfolding width
 at-least-one Unsigned8 = omega arith
 at-least-one Integer16 = omega arith
 at-least-one Unsigned16 = omega arith
 at-least-one Real32 = omega arith
+
+pub never-three : (kind : Kind) → width kind ≡ 3 → ⊥
+unfolding width
+never-three Unsigned8 e = omega arith
+never-three Integer16 e = omega arith
+never-three Unsigned16 e = omega arith
+never-three Real32 e = omega arith
 
 pub at-most-four : (kind : Kind) → width kind ≤ 4
 unfolding width

@@ -30,5 +30,9 @@ returns-6 : tie.Need-returns-6
 unfolding command-of first
 returns-6 c = search tests
 
+returns-7 : tie.Need-returns-7
+unfolding command-of first
+returns-7 c = search tests
+
 pub command-spec : {M : Type 1} → statement M
-command-spec = tie.close (tie.spec returns returns-2 returns-3 returns-4 returns-5 returns-6)
+command-spec = tie.close (tie.spec returns returns-2 returns-3 returns-4 returns-5 returns-6 returns-7)

@@ -3,7 +3,7 @@
 use mathlib.Core.Path.{_∙_}
 use native.Mathlib.Omega.{arith}
 use borrow.Author.Needs.{needs}
-use Rattle.sdo.proofs.AnswerLaws.{found-in-unit, write-sizes, other-command, a-read, a-write}
+use Rattle.sdo.proofs.AnswerLaws.{found-in-unit, other-command, a-read, a-write}
 use Rattle.sdo.proofs.deciding.obey.Statement.{statement}
 use Rattle.sdo.proofs.deciding.obey.Tie as tie
 
@@ -34,9 +34,6 @@ read-requires c κs = found-in-unit _ _ _ (c .before .before .before .before .fi
 enum-known-command : tie.Need-enum-known-command
 enum-known-command c = search needs
 
-data-in-requires : tie.Need-data-in-requires
-data-in-requires c κs = let sizes = write-sizes _ _ _ (c .before .before .before .command .ensures) (c .before .command2 .given .1) in (omega arith, sizes .0, sizes .1)
-
 write-requires : tie.Need-write-requires
 write-requires c κs = search needs
 
@@ -51,10 +48,10 @@ returns-2 c =
 
 returns-3 : tie.Need-returns-3
 returns-3 c =
-    let size = c .before .before .before in
+    let size = c .before .before in
     let chosen = size .before .before in
     let named = chosen .before .before in
-    c .write .ensures ∙ a-write _ _ _ (chosen .command .ensures) _ _ _ (named .before .before .index-in .ensures) (named .before .sub-in .ensures) (named .find .ensures) _ _ (size .command2 .given .1) (c .before .data-in .ensures)
+    c .write .ensures ∙ a-write _ _ _ (chosen .command .ensures) _ _ _ (named .before .before .index-in .ensures) (named .before .sub-in .ensures) (named .find .ensures) _ (size .command2 .given .1)
 
 pub obey-spec : {M : Type 1} → statement M
 obey-spec =
@@ -69,7 +66,6 @@ obey-spec =
     enum-told-2
     read-requires
     enum-known-command
-    data-in-requires
     write-requires
     returns
     returns-2

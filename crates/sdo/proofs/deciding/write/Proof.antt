@@ -3,7 +3,6 @@
 use mathlib.Core.Path.{_∙_}
 use borrow.Author.Needs.{needs}
 use Rattle.sdo.proofs.AnswerLaws.{no-entry}
-use Rattle.sdo.specs.Answers.{writing}
 use Rattle.sdo.proofs.deciding.write.Statement.{statement}
 use Rattle.sdo.proofs.deciding.write.Tie as tie
 
@@ -20,7 +19,6 @@ offer-requires : tie.Need-offer-requires
 offer-requires c κs = search needs
 
 returns-2 : tie.Need-returns-2
-unfolding writing
 returns-2 c = rw (c .before .before .found .given .1) (c .offer .ensures)
 
 pub write-spec : {M : Type 1} → statement M
