@@ -4,7 +4,7 @@
                                  at a table that is not as found, or at a public function without its contract
     python3 papers.py --write    writes TRUST.md's tables anew, in place
 
-Looked at are README.md, docs/ and the README.md of tests/, bench/ and chip/: names in backticks, and in TRACE.md the words before
+Looked at are README.md, docs/ with what stands below it, and the README.md of tests/, bench/ and chip/: names in backticks, and in TRACE.md the words before
 them too. A file of definitions has to be believed if one is led to it, by what is cited, from a demand, from the statements on a
 session's pieces and on its program, or from a contract that stands at the edge: of a function that C calls, that a program uses, or that nothing
 else in the tree uses.
@@ -19,7 +19,7 @@ import wrong_answers
 from tree import CRATES, ROOT, public, public_functions
 
 TRUST = ROOT / "docs" / "TRUST.md"
-PAPERS = [ROOT / "README.md", *sorted(ROOT.glob("docs/*.md")), ROOT / "tests" / "README.md", ROOT / "bench" / "README.md", ROOT / "chip" / "README.md"]
+PAPERS = [ROOT / "README.md", *sorted(ROOT.glob("docs/**/*.md")), ROOT / "tests" / "README.md", ROOT / "bench" / "README.md", ROOT / "chip" / "README.md"]
 LEANING = {name: below.split() for name, below in re.findall(r"^(\w+):(.*)", (ROOT / "crates.txt").read_text(), re.M)}
 WORDS = ("crates.txt", "crates/**/*.rt", "crates/**/*.antt", "crates/*/*.h", "bench/*", "chip/*", "tests/*", "tests/chip/*")
 TICKED = re.compile(r"`([^`]+)`")

@@ -34,7 +34,8 @@ extern "C" {
 /* Makes the unit a fresh one: every entry at its default, nothing remembered. What was in the array does not matter. */
 void valve_start(uint32_t *unit);
 
-/* Answers one SDO request of frame_length bytes (DS-301, expedited transfer). Returns the reply's length: 8 where the first 8 bytes of
+/* Answers one SDO request of frame_length bytes (DS-301, expedited transfer): a read (40h), a write that tells its size (23h, 27h, 2Bh,
+ * 2Fh), or one that does not (22h), of which as many bytes count as the entry has. Returns the reply's length: 8 where the first 8 bytes of
  * reply now hold the answer, which may be an abort, or 0 where there is no answer and reply is as it was: a frame that is not 8 long,
  * room for fewer than 8 bytes, or the client's own abort (80h). Only an accepted write changes the unit, and that in one entry. */
 int32_t valve_serve(uint32_t *unit, const uint8_t *frame, uint64_t frame_length, uint8_t *reply, uint64_t reply_length);
