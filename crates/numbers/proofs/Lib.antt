@@ -1,3 +1,4 @@
+pub mod Bound
 pub mod Choices
 pub mod Differences
 pub mod ExactLaws

@@ -1,3 +1,4 @@
+pub mod Bound
 pub mod Choice
 pub mod Limit
 pub mod Line

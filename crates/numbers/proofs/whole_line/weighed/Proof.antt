@@ -1,18 +1,14 @@
--- Both ends weighed: each product is at most 65535 times its weight, so the sum is at most 65535 times the divisor.
+-- Both ends weighed: no product passes 65535 * 65535 (Bound).
 -- Assumes nothing.
-use Prim.Native.Nat.{ℕ, _+_, _-_, _*_, _<_, _≤_}
-use native.Mathlib.Nat.{mul-le-mul-right}
+use Prim.Native.Nat.{_+_, _-_, _*_, _≤_}
 use native.Mathlib.Omega.{arith}
 use borrow.Author.Needs.{needs}
+use Rattle.numbers.proofs.Bound as Bound
 use Rattle.numbers.proofs.whole_line.weighed.Statement.{statement}
 use Rattle.numbers.proofs.whole_line.weighed.Tie as tie
 
-share : {y : ℕ} (k : ℕ) → y < 65536 → y * k ≤ 65535 * k
-share {y} k h = let g : y ≤ 65535 = omega arith in mul-le-mul-right k g
-
 sum-at-most : (c : tie.Start) → c .args .y1 * (c .args .d - c .args .t) + c .args .y2 * c .args .t ≤ 65535 * c .args .d
-sum-at-most c =
-    omega (arith, share (c .args .d - c .args .t) (c .pre .3), share (c .args .t) (c .pre .4))
+sum-at-most c = Bound.sum-at-most (c .pre .0) (c .pre .3) (c .pre .4)
 
 sub-rounded : tie.Need-sub-rounded
 sub-rounded c = search needs
