@@ -1,7 +1,8 @@
 -- The three demands are met.
 -- Assumes nothing.
 use Rattle.dictionary.proofs.OneEach as OneEach
-use Rattle.promises.specs.Demands.{Demand-1, Demand-2, Demand-3}
+use Rattle.numbers.proofs.Bound as Bound
+use Rattle.promises.specs.Demands.{Demand-1, Demand-2, Demand-3, Asked-for}
 use Rattle.promises.proofs.Bench as Bench
 use Rattle.promises.proofs.FrameRefusals as FrameRefusals
 use Rattle.promises.proofs.Images as Images
@@ -86,3 +87,6 @@ demand-3 =
       own-image = Restoring.own-image;
       out-of-the-trap = Trap.out-of-the-trap;
     }
+
+pub asked-for : Asked-for
+asked-for = record { fits-32-bits = Bound.fits-32-bits }

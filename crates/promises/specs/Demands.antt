@@ -1,5 +1,6 @@
--- The three demands, each one definition: its words, and beside them the statements that answer them.
+-- The three demands, each one definition: its words, and beside them the statements that answer them; and what document 02 asks for besides.
 -- Assumes nothing.
+use Rattle.numbers.specs.Bound.{Fits-32-bits}
 use Rattle.dictionary.specs.OneEach.{Names-apart, Slot-named, Slots-apart}
 use Rattle.promises.specs.Bench.{On-the-bench}
 use Rattle.promises.specs.FrameRefusals.{Frames-meet-theirs, Codes-as-listed}
@@ -129,3 +130,8 @@ pub record Demand-3 : Type 0 where
   pub own-image : Own-image
   -- "to move 0, 100, .. to 500, 600, .. the first write (500) is refused": this move, and its list to the byte
   pub out-of-the-trap : Out-of-the-trap
+
+-- What document 02 asks for and is no part of the three demands, request by request.
+pub record Asked-for : Type 0 where
+  -- (iii) "The largest product is 65,535 x 65,535 = 4,294,836,225, and half the divisor still fits on top in 32 bits unsigned."
+  pub fits-32-bits : Fits-32-bits
