@@ -42,6 +42,7 @@ USES = """\
 ./run session                        serves a session: frames and ticks on standard input, an answer to each line
 ./run restore CURRENT WANTED LIST    writes the restore list of two image files, all of it or nothing
 ./run restore --show CURRENT WANTED  one line for each entry that differs, in send order
+./run chip [CHIP]                    builds the libraries for a chip into target/chip/CHIP; without one, says which chips there are
 """
 USE = "restore CURRENT WANTED LIST, or restore --show CURRENT WANTED\n"
 REFUSALS = {
