@@ -22,6 +22,7 @@ use Rattle.numbers.proofs.Orders.{lt-is-below, not-below-is-le, le-is-not-below
 use Rattle.numbers.proofs.Tests.{le-below}
 use Rattle.numbers.proofs.ExactLaws.{back}
 use Rattle.numbers.proofs.OrderLaws.{≤ℤ-trans}
+use Rattle.table.specs.Curves.{Not-falling}
 use Rattle.table.specs.Sentence.{Sentence}
 use Rattle.table.specs.Table.{least, value, unused, used, reaches, place, interval, curve}
 
@@ -149,7 +150,7 @@ unfolding curve first
 at-first response x y v e = rw e
 
 -- the first point is always used, and no more than eleven are
-some-used : (response : List ℕ) → 1 ≤ used response
+pub some-used : (response : List ℕ) → 1 ≤ used response
 unfolding used
 some-used response = least-from (unused response) 1 10
 
@@ -157,18 +158,14 @@ pub used-most : (response : List ℕ) → used response ≤ 11
 unfolding used
 used-most response = least-to (unused response) 1 10
 
--- ---- where the X rise, no used point is reached exactly where x > Xm, and the curve is the paper's sentence
-unfoldable pub Rising : List ℕ → ℕ → Type 0
-Rising x m = (k : ℕ) → k + 1 < m → value x k ≤ℤ value x (k + 1)
-
-up-to : (x : List ℕ) (m j n : ℕ) → Rising x m → j + n < m → value x j ≤ℤ value x (j + n)
-unfolding Rising
+-- ---- where the X do not fall, no used point is reached exactly where x > Xm, and the curve is the paper's sentence
+pub up-to : (x : List ℕ) (m j n : ℕ) → Not-falling x m → j + n < m → value x j ≤ℤ value x (j + n)
 up-to x m j zero r h = rw (add-zero j) (≤ℤ-refl (value x j))
 up-to x m j (suc n) r h =
     let next : j + n + 1 ≡ j + suc n = omega arith in
     ≤ℤ-trans (up-to x m j n r (omega arith)) (rw next at (r (j + n) (omega arith)))
 
-module _ (response x : List ℕ) (v : ℤ) (rise : Rising x (used response)) (past : reaches x v 0 ≡ false) where
+module _ (response x : List ℕ) (v : ℤ) (rise : Not-falling x (used response)) (past : reaches x v 0 ≡ false) where
   m : ℕ
   m = used response
 
@@ -213,7 +210,7 @@ module _ (response x : List ℕ) (v : ℤ) (rise : Rising x (used response)) (pa
     by (yes q) = eq-eqb _ _ q ∙ sym (missed q)
     by (no q) = ne-eqb _ _ q ∙ sym (found (omega (arith, no-farther, q)))
 
-pub sentence : (response x y : List ℕ) (v : ℤ) → Rising x (used response) → Sentence response x y v
+pub sentence : (response x y : List ℕ) (v : ℤ) → Not-falling x (used response) → Sentence response x y v
 unfolding curve reaches first
 sentence response x y v rise =
     record {

@@ -1,3 +1,4 @@
+pub mod Curves
 pub mod Sentence
 pub mod Table
 pub mod Tables

@@ -121,7 +121,7 @@ at-negative (inf s) p h = absurd p
 at-negative (fin false m e) p h = absurd p
 at-negative (fin true m e) p h = limited-below (nearestSize (m * up e) (down e)) (size-most 32768 (m * up e) (down e) (down-pos e) h)
 
-nothing : (n d : ℕ) → 0 < d → n ≤ 0 → nearestSize n d ≡ 0
+pub nothing : (n d : ℕ) → 0 < d → n ≤ 0 → nearestSize n d ≡ 0
 nothing n d p h = let l = size-most 0 n d p (omega arith) in omega arith
 
 pub at-zero : (v : Float) → lt (fin false 0 (pos 0)) v ≡ false → lt v (fin false 0 (pos 0)) ≡ false → nearest16 v ≡ pos 0
