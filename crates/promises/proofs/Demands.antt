@@ -1,9 +1,11 @@
--- The three demands are met.
+-- The three demands are met, and what was asked for besides.
 -- Assumes nothing.
 use Rattle.dictionary.proofs.OneEach as OneEach
 use Rattle.numbers.proofs.Bound as Bound
+use Rattle.table.proofs.Curves as curves
 use Rattle.promises.specs.Demands.{Demand-1, Demand-2, Demand-3, Asked-for}
 use Rattle.promises.proofs.Bench as Bench
+use Rattle.promises.proofs.Curves as Curves
 use Rattle.promises.proofs.FrameRefusals as FrameRefusals
 use Rattle.promises.proofs.Images as Images
 use Rattle.promises.proofs.ImageRefusals as ImageRefusals
@@ -89,4 +91,11 @@ demand-3 =
     }
 
 pub asked-for : Asked-for
-asked-for = record { fits-32-bits = Bound.fits-32-bits }
+asked-for =
+    record {
+      fits-32-bits = Bound.fits-32-bits;
+      never-dips = curves.never-dips;
+      tables-never-dip = Curves.tables-never-dip;
+      stays-between = curves.stays-between;
+      tables-stay-between = Curves.tables-stay-between;
+    }

@@ -1,6 +1,7 @@
 pub mod Accepted
 pub mod Bench
 pub mod ByteLaws
+pub mod Curves
 pub mod Demands
 pub mod FrameRefusals
 pub mod ImageRefusals

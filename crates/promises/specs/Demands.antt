@@ -2,7 +2,9 @@
 -- Assumes nothing.
 use Rattle.numbers.specs.Bound.{Fits-32-bits}
 use Rattle.dictionary.specs.OneEach.{Names-apart, Slot-named, Slots-apart}
+use Rattle.table.specs.Curves.{Never-dips, Stays-between}
 use Rattle.promises.specs.Bench.{On-the-bench}
+use Rattle.promises.specs.Curves.{Tables-never-dip, Tables-stay-between}
 use Rattle.promises.specs.FrameRefusals.{Frames-meet-theirs, Codes-as-listed}
 use Rattle.promises.specs.Images.{Saved-reads-back, Same-bytes-again, Accepts-exactly, One-configuration-each, Refusals-write-nothing, One-outcome, Looked-up-as-it-stands}
 use Rattle.promises.specs.ImageRefusals.{Images-meet-theirs, One-to-seven, Told-to-C, Same-for-C, One-for-C, Number-tells-which}
@@ -135,3 +137,10 @@ pub record Demand-3 : Type 0 where
 pub record Asked-for : Type 0 where
   -- (iii) "The largest product is 65,535 x 65,535 = 4,294,836,225, and half the divisor still fits on top in 32 bits unsigned."
   pub fits-32-bits : Fits-32-bits
+  -- (xii) "For any table whose used Y values don't fall from point to point, a larger x never gives a smaller output, for lines and jumps and equal X alike":
+  -- of the curve, and of every table at work
+  pub never-dips : Never-dips
+  pub tables-never-dip : Tables-never-dip
+  -- "and every output lies between the two Y values of its interval"
+  pub stays-between : Stays-between
+  pub tables-stay-between : Tables-stay-between
