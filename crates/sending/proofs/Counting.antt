@@ -36,7 +36,7 @@ module _ (a b : List ℕ) where
 
 -- ---- the number of entries that differ is what they weigh at one each
 
-apart-weight : (a b : List ℕ) → apart a b ≡ weight (λ s. 1) a b
+pub apart-weight : (a b : List ℕ) → apart a b ≡ weight (λ s. 1) a b
 unfolding apart weight
 apart-weight a b = total-length (picked (differs a b) (stretch 0 configured)) ∙ total-picked (λ s. 1) (differs a b) (stretch 0 configured)
 

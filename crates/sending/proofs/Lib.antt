@@ -1,4 +1,5 @@
 pub mod Agenda
+pub mod ByWay
 pub mod Clock
 pub mod Counting
 pub mod Picked

@@ -1,1 +1,2 @@
+pub mod ByWay
 pub mod Sending
