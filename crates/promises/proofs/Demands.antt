@@ -1,4 +1,4 @@
--- The three demands are met, and what was asked for besides.
+-- The three demands are met, and what document 02 asks for besides.
 -- Assumes nothing.
 use Rattle.dictionary.proofs.OneEach as OneEach
 use Rattle.numbers.proofs.Bound as Bound
@@ -6,6 +6,7 @@ use Rattle.table.proofs.Curves as curves
 use Rattle.promises.specs.Demands.{Demand-1, Demand-2, Demand-3, Asked-for}
 use Rattle.promises.proofs.Bench as Bench
 use Rattle.promises.proofs.Curves as Curves
+use Rattle.promises.proofs.ByWay as ByWay
 use Rattle.promises.proofs.FrameRefusals as FrameRefusals
 use Rattle.promises.proofs.Images as Images
 use Rattle.promises.proofs.ImageRefusals as ImageRefusals
@@ -98,4 +99,9 @@ asked-for =
       tables-never-dip = Curves.tables-never-dip;
       stays-between = curves.stays-between;
       tables-stay-between = Curves.tables-stay-between;
+      empty-to-itself = Restoring.equal-images;
+      there-and-back = ByWay.there-and-back;
+      by-way = ByWay.by-way;
+      cost-of-the-way = ByWay.cost-of-the-way;
+      same-end = ByWay.same-end;
     }

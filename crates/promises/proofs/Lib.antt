@@ -1,5 +1,6 @@
 pub mod Accepted
 pub mod Bench
+pub mod ByWay
 pub mod ByteLaws
 pub mod Curves
 pub mod Demands

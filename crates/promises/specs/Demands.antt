@@ -5,6 +5,7 @@ use Rattle.dictionary.specs.OneEach.{Names-apart, Slot-named, Slots-apart}
 use Rattle.table.specs.Curves.{Never-dips, Stays-between}
 use Rattle.promises.specs.Bench.{On-the-bench}
 use Rattle.promises.specs.Curves.{Tables-never-dip, Tables-stay-between}
+use Rattle.promises.specs.ByWay.{There-and-back, By-way, Cost-of-the-way, Same-end}
 use Rattle.promises.specs.FrameRefusals.{Frames-meet-theirs, Codes-as-listed}
 use Rattle.promises.specs.Images.{Saved-reads-back, Same-bytes-again, Accepts-exactly, One-configuration-each, Refusals-write-nothing, One-outcome, Looked-up-as-it-stands}
 use Rattle.promises.specs.ImageRefusals.{Images-meet-theirs, One-to-seven, Told-to-C, Same-for-C, One-for-C, Number-tells-which}
@@ -144,3 +145,13 @@ pub record Asked-for : Type 0 where
   -- "and every output lies between the two Y values of its interval"
   pub stays-between : Stays-between
   pub tables-stay-between : Tables-stay-between
+  -- (xi) "State and prove for complete, ordered images: a list from one to itself is empty"
+  pub empty-to-itself : Equal-images
+  -- "there and back have equal counts"
+  pub there-and-back : There-and-back
+  -- "the count from A to C is at most A to B plus B to C, equal exactly when every entry holds in B what it holds in A or in C"
+  pub by-way : By-way
+  -- and if not every entry does, this is what it costs more
+  pub cost-of-the-way : Cost-of-the-way
+  -- "and sending both lists leaves what the direct one leaves."
+  pub same-end : Same-end

@@ -1,4 +1,5 @@
 pub mod Bench
+pub mod ByWay
 pub mod Curves
 pub mod Delivery
 pub mod Demands
