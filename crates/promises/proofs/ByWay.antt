@@ -10,7 +10,7 @@ use Rattle.image.specs.Reading.{configuration-in}
 use Rattle.sending.specs.Sending.{apart}
 use Rattle.sending.proofs.ByWay.{apart-back, apart-cost, apart-by-way, apart-exactly}
 use Rattle.promises.specs.ByWay.{Call, count, frames, There-and-back, By-way, Cost-of-the-way, Same-end}
-use Rattle.promises.specs.Restoring.{Holds, Sent, Restoring}
+use Rattle.promises.specs.Restoring.{Holds, Sent}
 use Rattle.promises.proofs.Restoring.{count-is-difference, arrives}
 
 module _ {current wanted : List ℕ} (call : Call current wanted) where
