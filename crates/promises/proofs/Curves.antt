@@ -30,8 +30,8 @@ module _ (k : ℕ) (h : k < 6) (response x y : List ℕ) where
   -- the x of the curve is the INTEGER16 that X becomes
   looked-up : (saw : Signal) → Number saw → lookedUp response x y saw ≡ Whole (curve response x y (signals.whole saw))
   unfolding lookedUp signals.whole
-  looked-up (Whole v) (Number.whole v) = refl
-  looked-up (Real r) (Number.real r) = refl
+  looked-up saw Number.a-whole = refl
+  looked-up saw Number.a-real = refl
 
   module _ {saw : Signal} {after : List ℕ} (t : Through k response x y saw after) where
     tick : Ticked (t .samples) (run (t .events) at-start) after
@@ -55,10 +55,10 @@ module _ (k : ℕ) (h : k < 6) (response x y : List ℕ) where
 
 pub tables-never-dip : Tables-never-dip
 unfolding signals.whole
-tables-never-dip k h response x y rise saw saw′ after after′ t u (No-smaller.whole {v} {w} l) =
-    record { low = _; high = _; first = gives k h response x y t (Number.whole v); second = gives k h response x y u (Number.whole w); order = never-dips response x y rise v w l }
-tables-never-dip k h response x y rise saw saw′ after after′ t u (No-smaller.real {r} {s} l) =
-    record { low = _; high = _; first = gives k h response x y t (Number.real r); second = gives k h response x y u (Number.real s); order = never-dips response x y rise _ _ (nearest-rises r s l) }
+tables-never-dip k h response x y rise saw saw′ after after′ t u (No-smaller.wholes {v} {w} l) =
+    record { low = _; high = _; first = gives k h response x y t Number.a-whole; second = gives k h response x y u Number.a-whole; order = never-dips response x y rise v w l }
+tables-never-dip k h response x y rise saw saw′ after after′ t u (No-smaller.reals {r} {s} l) =
+    record { low = _; high = _; first = gives k h response x y t Number.a-real; second = gives k h response x y u Number.a-real; order = never-dips response x y rise _ _ (nearest-rises r s l) }
 
 pub tables-stay-between : Tables-stay-between
 tables-stay-between k h response x y saw after t n =

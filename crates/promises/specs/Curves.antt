@@ -38,8 +38,8 @@ pub record Gives (k : ℕ) (after : List ℕ) (n : ℤ) : Type 0 where
 
 -- two X of which the second is no smaller: whole numbers, or REAL32
 pub data No-smaller : Signal → Signal → Type 0 where
-  whole : {v w : ℤ} → v ≤ℤ w → No-smaller (Whole v) (Whole w)
-  real : {r s : Float} → le r s ≡ true → No-smaller (Real r) (Real s)
+  wholes : {v w : ℤ} → v ≤ℤ w → No-smaller (Whole v) (Whole w)
+  reals : {r s : Float} → le r s ≡ true → No-smaller (Real r) (Real s)
 
 pub record Rises (k : ℕ) (after after′ : List ℕ) : Type 0 where
   pub low : ℤ
@@ -56,8 +56,8 @@ Tables-never-dip =
 
 -- an X that is a number
 pub data Number : Signal → Type 0 where
-  whole : (v : ℤ) → Number (Whole v)
-  real : (r : Float) → Number (Real r)
+  a-whole : {v : ℤ} → Number (Whole v)
+  a-real : {r : Float} → Number (Real r)
 
 pub record Lies-between (k : ℕ) (a b : ℤ) (after : List ℕ) : Type 0 where
   pub output : ℤ

@@ -155,7 +155,7 @@ module _ (response x y : List ℕ) (rise : Not-falling y (used response)) where
         by true = rises (value x (k - 1)) (value y (k - 1)) (value x k) (value y k) (later (k - 1) k (omega arith) h) v w q
         by false = ≤ℤ-refl (value y k)
 
-    -- every interval ends before the last point
+    -- no interval ends behind the last point
     to-last : reaches x w 0 ≡ false → place response x w ≡ used response → curve response x y v ≤ℤ curve response x y w
     to-last f r = follows (omega (arith, ordered response x v, at-beyond response x w y f r .begins))
 
