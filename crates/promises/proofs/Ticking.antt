@@ -120,7 +120,6 @@ no-nan unit v signal m x e = by (subst Kept e (made-kept unit v signal m)) where
   by (real f e) = e
 
 pub table-sentence : Table-sentence
-unfolding Curve.Rising
 table-sentence unit v k h x =
     Curve.sentence _ _ _ x (λ i g. points-rise unit v k h i (omega (arith, Curve.used-most (eleven unit (of-table 0x3004 (k + 1))))))
 
