@@ -123,7 +123,7 @@ def facts(log):
 
     What only puts a function's facts together, its `..-spec`, is none.
     """
-    for line in log:
+    for line in re.sub(r"\n +(?=has no field)", " ", "\n".join(log)).splitlines():  # behind a long name it stands on a line of its own
         error, verdict = ERROR.match(line), VERDICT.match(line)
         if error and not error[2].endswith("-spec") and not any(words in error[3] for words in FOLLOWS):
             place = re.sub(r".*/(specs|proofs)/", "", error[1])
