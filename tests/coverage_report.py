@@ -371,7 +371,13 @@ def see_ramped(result, output, target):
         return
     hit("output ramp", way, "arrives" if result == target else "on its way")
     if (fv2 - fv1) % ramp:
-        hit("output step rounded up")
+        hit("output movement rounded down")
+    if result == limited:
+        hit("output count goes on and nothing moves", way)
+    if output.count is not None and output.count.ticks == 1:
+        hit("output count begins", way)
+    elif output.count is not None:
+        hit("output count goes on", way)
 
 
 # --------------------------------------------------------------------------- Sources
@@ -526,7 +532,8 @@ def expected_of_outputs():
     for what in (
         "mode 0 keeps a command outside FV1..FV2/override FV outside FV1..FV2/control whole/control REAL32/"
         "last command limited to FV1/last command limited to FV2/stands/at once up/at once down/ramp up on its way/"
-        "ramp up arrives/ramp down on its way/ramp down arrives/step rounded up"
+        "ramp up arrives/ramp down on its way/ramp down arrives/movement rounded down/count begins up/count begins down/"
+        "count goes on up/count goes on down/count goes on and nothing moves up/count goes on and nothing moves down"
     ).split("/"):
         yield "output " + what
     for name in ("enable", "override"):

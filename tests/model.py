@@ -9,6 +9,7 @@ papers: the names are theirs, and a comment quotes the sentence a line stands fo
     python3 model.py < session       prints what the session program must print
 """
 
+import fractions
 import math
 import operator
 import re
@@ -16,7 +17,10 @@ import struct
 import sys
 
 # The requests that have landed. Without one, the model is the controller as it was before it.
-REQUESTS = ("ii",)
+REQUESTS = (
+    "i",
+    "ii",
+)
 
 # --------------------------------------------------------------------------- Numbers
 
@@ -670,9 +674,13 @@ class Output:
         self.override_fv = names.entry(0x2300, n)
         self.ramp_up, self.ramp_down = names.entry(0x2330, n), names.entry(0x2331, n)
         self.command = names.entry(0x7330, n)  # holds the last command until it is set
+        self.count = None  # (i) "starts the count again": there is none, as on the first tick of all (OP 100)
 
     def step(self):
-        self.command.value = self.commanded(self.rule())
+        rule = self.rule()
+        if rule != 7:  # "a tick under rules 1 to 6"
+            self.count = None
+        self.command.value = self.commanded(rule)
 
     def rule(self):
         """ "First rule that applies" """
@@ -713,14 +721,44 @@ class Output:
         return line(control, pv1, self.fv1.value, pv2, self.fv2.value)
 
     def ramped(self, target):
-        """The last command, limited to FV1..FV2, moved "toward it by at most (FV2 - FV1) / ramp, rounded up" """
+        """The last command, limited to FV1..FV2, moves toward the target; (i) by what a count's ticks make of the ramp."""
         fv1, fv2 = self.fv1.value, self.fv2.value
         last = limit(self.command.value, fv1, fv2)
         ramp = self.ramp_up.value if target > last else self.ramp_down.value
-        if ramp == 0:  # "ramp 0 goes at once"
+        if "i" not in REQUESTS:
+            return self.stepped(target, last, ramp)
+        if ramp == 0 or target == last:  # "Ramp 0 still goes at once"; at the target there is no direction (OP 97, 161)
+            self.count = None
             return target
-        step = -((fv1 - fv2) // ramp)
+        # "a change of direction, FV1, FV2 or the ramp in use since the last tick": the values at the two ticks differ (OP 98, 99)
+        terms = (target > last, fv1, fv2, ramp)
+        if self.count is None or self.count.terms != terms:
+            self.count = Count(terms, last)
+        command = self.count.tick(target)
+        if command == target:  # "Standing at the target after the last tick" (OP 95, 96)
+            self.count = None
+        return command
+
+    def stepped(self, target, last, ramp):
+        """Before (i): "by at most (FV2 - FV1) / ramp, rounded up; ramp 0 goes at once" """
+        if ramp == 0:
+            return target
+        step = -((self.fv1.value - self.fv2.value) // ramp)
         return limit(target, last - step, last + step)
+
+
+class Count:
+    """(i): the ticks since a ramp began, and the command from which it moves (OP 94)."""
+
+    def __init__(self, terms, start):
+        self.terms, self.start, self.ticks = terms, start, 0
+
+    def tick(self, target):
+        """ "its movement after k ticks must be k x (FV2 - FV1) / ramp rounded down, stopped at the target; falling likewise" """
+        rising, fv1, fv2, ramp = self.terms
+        self.ticks += 1
+        movement = math.floor(self.ticks * fractions.Fraction(fv2 - fv1, ramp))
+        return min(self.start + movement, target) if rising else max(self.start - movement, target)
 
 
 # --------------------------------------------------------------------------- Controller

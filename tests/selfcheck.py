@@ -84,7 +84,7 @@ def check_bench():
     assert check_bench_points() == 0xFFFF
     assert model.integer16(2.5) == 3
     assert check_bench_math() == 0x43FA0000
-    assert check_bench_output() == [2, 0, 0, 0]
+    assert check_bench_output() == [1, 0, 0, 0]
     return "14 bench examples"
 
 
@@ -108,7 +108,7 @@ def check_bench_math():
 
 
 def check_bench_output():
-    """ "Output at rest, target 1500: 2 after one tick" """
+    """ "Output at rest, target 1500: 2 after one tick"; (i) "the bench example becomes 1" """
     bench = Bench()
     for index, sub, value in ((0x2340, 1, 1), (0x2341, 1, 1), (0x2500, 1, 1000)):
         assert bench.accepts(index, sub, value)
@@ -204,7 +204,10 @@ def check_unanswered():
 # --------------------------------------------------------------------------- Requests
 
 # The lines that touch a request: only with one of them may a session's answers be others than before it.
-TOUCHES = {"ii": lambda line: line.startswith(b"S 22")}
+TOUCHES = {
+    "i": lambda line: line[4:8] == b"4023",  # 2340h: an output without a control is never under rule 7
+    "ii": lambda line: line.startswith(b"S 22"),
+}
 
 
 def check_requests():

@@ -6,7 +6,9 @@ blocks have something to read. Every session starts on a fresh unit.
 
     python3 sessions.py SEED LINES             one random session on standard output
     python3 sessions.py walk                   the session that walks every name
+    python3 sessions.py ramps                  the session that walks request (i)
     python3 sessions.py long                   the session with the longest delays, 65,700 ticks
+    python3 sessions.py 'long ramps'           the session with the longest ramps, 120,002 ticks
     python3 sessions.py --coverage SEED LINES  what the sessions of that plan reach, counted
 """
 
@@ -583,6 +585,46 @@ class Unit:
         yield from self.ticks()
         yield frame_line(0x40, 0x7330, n)
 
+    def ramp_under_way(self):
+        """(i): an output on its ramp, with all that may start its count again, or must not, between the ticks."""
+        rng, n = self.rng, self.rng.randint(1, 4)
+        ec, fv2 = rng.randint(5, 12), rng.choice((1, 7, 100, 1500, 2500))
+        for index, value in ((0x2340, 1), (0x2341, ec), (0x2350, 0), (0x2360, 0), (0x6340, 0)):
+            yield self.set(index, n, value)
+        yield from self.move_pair(0x7321, 0x7323, n, lambda: rng.choice((0, fv2, rng.randint(0, fv2))))
+        yield from self.move((self.names.entry(0x7320, n), self.names.entry(0x7322, n)), (0, 1000))
+        for index in (0x2330, 0x2331):
+            yield self.set(index, n, rng.choice((1, 2, 3, 7, 13, 40, 333, 1000, 60000)))
+        lever = rng.randint(0, 1000)
+        yield self.set(0x2500, ec, lever)
+        for _ in range(rng.choice((8, 20, 40))):
+            yield tick_line(self.calm_samples())
+            if self.chance(40):  # a lever by random walk
+                lever = fit16(lever + rng.choice((-900, -200, -30, -1, 1, 30, 200, 900)))
+                yield self.set(0x2500, ec, lever)
+            elif self.chance(25):
+                yield from self.ramp_touched(n)
+
+    def ramp_touched(self, n):
+        """What a ramp's count hangs on, written otherwise, as it is, or there and back; or one tick under another rule."""
+        rng = self.rng
+        if self.chance(40):
+            index, value = rng.choice(((0x2350, 6), (0x2360, 6), (0x2340, 0)))
+            source, number = self.names.entry(index, n), self.names.entry(index + 1, n)
+            before = (source.value, number.value)
+            yield write_line(source, value)
+            yield write_line(number, 1 if index == 0x2350 else 2)  # constant 1 is 0: enable off; constant 2 is 1: override on
+            yield tick_line(self.calm_samples())
+            yield write_line(source, before[0])
+            yield write_line(number, before[1])
+            return
+        entry = self.names.entry(rng.choice((0x2330, 0x2331, 0x7321, 0x7323)), n)
+        before = entry.value
+        if self.chance(50):
+            yield write_line(entry, max(entry.low, min(entry.high, before + rng.choice((-1, 1, 5)))))
+        if self.chance(60):
+            yield write_line(entry, before)
+
     def switches(self):
         """Blocks on and off, inputs detected or not, without touching anything else."""
         rng = self.rng
@@ -730,6 +772,7 @@ class Unit:
         (6, logic_settings),
         (2, close_comparison),
         (8, output_settings),
+        (4, ramp_under_way),
         (8, switches),
         (2, written_without_a_tick),
         (2, switched_off_under_a_reader),
@@ -863,6 +906,161 @@ def walk_session():
     return answered(unit.printer, walk(unit))
 
 
+# --------------------------------------------------------------------------- Ramps
+
+
+class Ramped:
+    """(i), sentence by sentence: output 1 with its control from EC 1, 0..1000 on the line to FV1..FV2."""
+
+    def __init__(self, unit):
+        self.unit, self.samples = unit, [2500, 2500, 2500, 2500]
+
+    def set(self, **values):
+        """One write for each: up, down, fv1, fv2 and so on."""
+        for name, value in values.items():
+            yield self.unit.set(self.NAMES[name], 1, value)
+
+    NAMES = {"up": 0x2330, "down": 0x2331, "fv1": 0x7321, "fv2": 0x7323, "lever": 0x2500, "control": 0x2340, "number": 0x2341}
+    NAMES.update({"enable": 0x2350, "enable_number": 0x2351, "override": 0x2360, "override_number": 0x2361})
+    NAMES.update({"override_fv": 0x2300, "mode": 0x6340, "fault": 0x7341, "delay": 0x2112})
+
+    def ticks(self, count=1):
+        for _ in range(count):
+            yield tick_line(self.samples)
+
+    def stand(self, at, **values):
+        """At rest at a lever's target, then other settings."""
+        yield from self.set(up=0, down=0, lever=at)
+        yield from self.ticks()
+        yield from self.set(**values)
+
+    def whole(self):
+        yield from self.set(control=1, number=1)
+        for part in (self.by_the_paper, self.lever, self.stopped, self.direction, self.changes, self.rules, self.faults, self.limits, self.at_once, self.four):
+            yield from part()
+
+    def by_the_paper(self):
+        """ "1500 over 1000 ms gives 1, 3, 4 and reaches 1500 at tick 1000"; "falling likewise" """
+        for lever in (1000, 0):
+            yield from self.set(lever=lever)
+            yield from self.ticks(1001)
+
+    def lever(self):
+        """ "a moving one too", "a lever that is always moving would hold a slow output still": a target that moves at every tick."""
+        rng = random.Random("lever")
+        for lever, low, high in ((1000, 400, 1000), (0, 0, 600)):
+            yield from self.stand(1000 - lever, up=700, down=900)
+            for _ in range(150):
+                yield from self.set(lever=rng.randint(low, high))
+                yield from self.ticks()
+
+    def stopped(self):
+        """ "stopped at the target", and standing there it starts again: the next target lies further, the same way."""
+        yield from self.stand(0, up=77, down=77)
+        for lever, count in ((10, 1), (1000, 3), (60, 1), (20, 5), (0, 1), (10, 4), (1000, 3), (500, 40), (1000, 2), (900, 1), (901, 9), (100, 9)):
+            yield from self.set(lever=lever)
+            yield from self.ticks(count)
+
+    def direction(self):
+        """A change of direction counts even where nothing has moved yet (OP 97)."""
+        yield from self.stand(500, up=60000, down=50000)
+        for lever, count in ((900, 39), (100, 33), (900, 39), (901, 3), (100, 50), (101, 60), (500, 2), (900, 45)):
+            yield from self.set(lever=lever)
+            yield from self.ticks(count)
+
+    def changes(self):
+        """ "a change of .. FV1, FV2 or the ramp in use since the last tick": otherwise, as it is, there and back, and the other ramp."""
+        for name, value, back in (("up", 998, 997), ("down", 5, 997), ("fv1", 1, 0), ("fv2", 1501, 1500)):
+            yield from self.stand(0, up=997, down=997, lever=1000)
+            for values in (value, back, None, value, value, back, None):
+                yield from self.ticks(7)
+                if values is None:  # there and back, between two ticks
+                    yield from self.set(**{name: value})
+                    yield from self.set(**{name: back})
+                else:
+                    yield from self.set(**{name: values})
+            yield from self.ticks(7)
+
+    def rules(self):
+        """ "a tick under rules 1 to 6, starts the count again": one tick of each between, that leaves the command as it is where it can."""
+        off, on = {"enable": 6, "enable_number": 1}, {"override": 6, "override_number": 2}
+        for rule in (off, on, {"control": 0}):
+            back = {name: value for name, value in (("enable", 0), ("override", 0), ("control", 1)) if name in rule}
+            for override in (9, 5, 0):  # 9 is where four ticks lead
+                yield from self.stand(0, up=613, down=613, lever=1000, override_fv=override)
+                yield from self.ticks(4)
+                yield from self.set(**rule)
+                yield from self.ticks()
+                yield from self.set(**back)
+                yield from self.ticks(4)
+
+    def faults(self):
+        """Enable, override and control in error, in both modes: input 1 is flagged for one tick."""
+        yield from self.set(delay=0)
+        for name in ("enable", "override", "control"):
+            for mode in (0, 1):
+                number = name + "_number" if name != "control" else "number"
+                yield from self.stand(0, up=613, down=613, lever=1000, mode=mode, fault=5)
+                yield from self.ticks(4)
+                yield from self.set(**{name: 2, number: 1})
+                self.samples[0] = 5001
+                yield from self.ticks()
+                self.samples[0] = 2500
+                yield from self.set(**{name: 1 if name == "control" else 0, number: 1})
+                yield from self.ticks(6)
+
+    def limits(self):
+        """FV1 above 0 after rule 1, and an override FV outside FV1..FV2: the last command is limited (OP 101)."""
+        yield from self.stand(0, fv1=300, up=350, down=350, lever=900, override_fv=2500, enable=6, enable_number=1)
+        yield from self.ticks(2)
+        yield from self.set(enable=0)
+        yield from self.ticks(5)
+        yield from self.set(override=6, override_number=2)
+        yield from self.ticks(2)
+        yield from self.set(override=0)
+        yield from self.ticks(5)
+        yield from self.set(fv1=0)
+
+    def at_once(self):
+        """ "Ramp 0 still goes at once", and a ramp of 1 arrives with its first tick."""
+        for ramp in (0, 1, 2, 3):
+            yield from self.set(up=ramp, down=ramp)
+            for lever in (1000, 0, 1, 333, 999):
+                yield from self.set(lever=lever)
+                yield from self.ticks(2)
+
+    def four(self):
+        """Each output has a count of its own."""
+        for n in (2, 3, 4):
+            for index, value in ((0x2340, 1), (0x2341, n), (0x2330, 90 * n), (0x2331, 70 * n), (0x2500, 1000)):
+                yield self.unit.set(index, n, value)
+            yield from self.ticks(3)
+        yield from self.set(up=450, down=450, lever=0)
+        yield from self.ticks(20)
+
+
+def ramp_session():
+    unit = Unit(random.Random("ramps"))
+    return answered(unit.printer, Ramped(unit).whole())
+
+
+def long_ramps(unit):
+    """Ramps beyond 15 and 16 bits of ticks and of current: the fitter's 10,000 ms, 32,768, 50,000 and 60,000 ms, up and down."""
+    for n, ramp in ((1, 10000), (2, 32768), (3, 50000), (4, 60000)):
+        for index, value in ((0x2340, 1), (0x2341, n), (0x2330, ramp), (0x2331, ramp), (0x7323, 1500 if n == 1 else 2500), (0x2500, 1000)):
+            yield unit.set(index, n, value)
+    for lever in (1000, 0):
+        for n in (1, 2, 3, 4):
+            yield unit.set(0x2500, n, lever)
+        for _ in range(60001):
+            yield tick_line((2500, 2500, 2500, 2500))
+
+
+def long_ramp_session():
+    unit = Unit(random.Random("long ramps"))
+    return answered(unit.printer, long_ramps(unit))
+
+
 # --------------------------------------------------------------------------- The longest delays
 
 
@@ -891,10 +1089,12 @@ def long_session():
 
 
 def plan(seed, lines):
-    """(title, session) by turns: the walk, then random sessions, so many lines in all."""
-    walked = list(walk_session())[:lines]
-    yield "walk", walked
-    left, k = lines - len(walked), 0
+    """(title, session) by turns: the ramps and the walk, then random sessions, so many lines in all."""
+    left, k = lines, 0
+    for title, session in (("ramps", ramp_session()), ("walk", walk_session())):
+        fixed = list(session)[:left]
+        yield title, fixed
+        left -= len(fixed)
     while left > 0:
         k += 1
         count = min(left, LINES_OF_ONE_SESSION)
@@ -911,6 +1111,10 @@ def main(arguments):
         session = walk_session()
     elif arguments == ["long"]:
         session = long_session()
+    elif arguments == ["ramps"]:
+        session = ramp_session()
+    elif arguments == ["long ramps"]:
+        session = long_ramp_session()
     elif len(arguments) == 2:
         session = random_session(arguments[0], int(arguments[1]))
     else:
