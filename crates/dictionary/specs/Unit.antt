@@ -20,14 +20,49 @@ unfoldable pub flags-at : ℕ
 unfolding runs-at
 flags-at = runs-at + 4
 
+-- of each output what it remembers of its ramp, in six words, from here on
+unfoldable pub ramps-at : ℕ
+unfolding flags-at
+ramps-at = flags-at + 4
+
+-- the ticks counted; 0: the count starts again, and the other five don't matter
+unfoldable pub ramp-count-at : ℕ
+unfolding ramps-at
+ramp-count-at = ramps-at
+
+-- what the count began with: the command, whether it rises, FV1, FV2 and the ramp in use
+unfoldable pub ramp-start-at : ℕ
+unfolding ramp-count-at
+ramp-start-at = ramp-count-at + 4
+
+unfoldable pub ramp-rising-at : ℕ
+unfolding ramp-start-at
+ramp-rising-at = ramp-start-at + 4
+
+unfoldable pub ramp-fv1-at : ℕ
+unfolding ramp-rising-at
+ramp-fv1-at = ramp-rising-at + 4
+
+unfoldable pub ramp-fv2-at : ℕ
+unfolding ramp-fv1-at
+ramp-fv2-at = ramp-fv1-at + 4
+
+unfoldable pub ramp-used-at : ℕ
+unfolding ramp-fv2-at
+ramp-used-at = ramp-fv2-at + 4
+
+unfoldable pub ramps-end : ℕ
+unfolding ramp-used-at
+ramps-end = ramp-used-at + 4
+
 -- the whole unit's words
 unfoldable pub unit-size : ℕ
-unfolding flags-at
-unit-size = flags-at + 4
+unfolding ramps-end
+unit-size = ramps-end
 
 -- where each object's words begin, in the order of `dictionary::slots`
 unfoldable pub places : List ℕ
-unfolding slot-of configured writable words signals-at runs-at flags-at unit-size
+unfolding slot-of configured writable words signals-at runs-at flags-at ramp-count-at ramp-start-at ramp-rising-at ramp-fv1-at ramp-fv2-at ramp-used-at unit-size
 places =
     slot-of 0x2110 1 ∷ slot-of 0x2111 1 ∷ slot-of 0x2112 1 ∷ slot-of 0x2300 1 ∷
     slot-of 0x2330 1 ∷ slot-of 0x2331 1 ∷ slot-of 0x2340 1 ∷ slot-of 0x2341 1 ∷
@@ -45,6 +80,7 @@ places =
     slot-of 0x7323 1 ∷ slot-of 0x7341 1 ∷ slot-of 0x2500 1 ∷ slot-of 0x1001 0 ∷
     slot-of 0x7100 1 ∷ slot-of 0x7130 1 ∷ slot-of 0x3017 0 ∷ slot-of 0x4010 1 ∷
     slot-of 0x4020 1 ∷ slot-of 0x4530 1 ∷ slot-of 0x7330 1 ∷ slot-of 0x5010 1 ∷
-    signals-at ∷ runs-at ∷ flags-at ∷ unit-size ∷
+    signals-at ∷ runs-at ∷ flags-at ∷
+    ramp-count-at ∷ ramp-start-at ∷ ramp-rising-at ∷ ramp-fv1-at ∷ ramp-fv2-at ∷ ramp-used-at ∷ unit-size ∷
     (slot-of 0x3020 0 - slot-of 0x3010 0) ∷ (slot-of 0x4201 1 - slot-of 0x4101 1) ∷ (slot-of 0x4700 1 - slot-of 0x4600 1) ∷
     configured ∷ writable ∷ words ∷ []

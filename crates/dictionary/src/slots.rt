@@ -166,13 +166,27 @@ pub const RUNS: usize = SIGNALS + 2 * 16;
 
 pub const FLAGS: usize = RUNS + 4;
 
-pub const UNIT: usize = FLAGS + 4;
+// Of each output what it remembers of its ramp: the ticks counted, and what the count began with: the command, whether it rises, FV1, FV2
+// and the ramp in use
+pub const RAMP_COUNT: usize = FLAGS + 4;
+
+pub const RAMP_START: usize = RAMP_COUNT + 4;
+
+pub const RAMP_RISING: usize = RAMP_START + 4;
+
+pub const RAMP_FV1: usize = RAMP_RISING + 4;
+
+pub const RAMP_FV2: usize = RAMP_FV1 + 4;
+
+pub const RAMP_USED: usize = RAMP_FV2 + 4;
+
+pub const UNIT: usize = RAMP_USED + 4;
 
 // The whole unit.
 pub type Unit = [u32; UNIT];
 
 // The places are the table's slots.
-fn places() -> [usize; 76]
+fn places() -> [usize; 82]
     ensures { λ r. ⌜ r ≡ places ⌝ }
 {
     [
@@ -245,6 +259,12 @@ fn places() -> [usize; 76]
         SIGNALS,
         RUNS,
         FLAGS,
+        RAMP_COUNT,
+        RAMP_START,
+        RAMP_RISING,
+        RAMP_FV1,
+        RAMP_FV2,
+        RAMP_USED,
         UNIT,
         TABLE_ENTRIES,
         LOGIC_ENTRIES,
