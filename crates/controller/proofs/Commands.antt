@@ -1,58 +1,40 @@
 -- The commands after a tick, of the unit itself.
 -- Assumes nothing.
-use Prim.Native.Nat.{ℕ, _+_, _<_, _≤_}
+use Prim.Native.Nat.{ℕ, _+_, _-_, _<_, _≤_}
 use mathlib.Core.Bool.{true}
 use mathlib.Core.List.{List}
 use mathlib.Core.Path.{_≡_, refl, sym, ap, _∙_, subst}
+use native.Mathlib.Nat.{mod-lt}
 use native.Mathlib.Omega.{arith}
-use lib.Dec.{eqb, lit<, lit≤}
+use lib.Dec.{lit<, lit≤}
 use lib.IntN.{ℤ, pos}
 use lib.Signed.{_<ℤ_}
-use lib.ListN.{length, getD}
-use lib.Seq.{getD-set-same}
+use lib.ListN.{length, getD, set}
 use mir.Syntax.{w16}
 use mir.Val.{SFits}
 use Rattle.numbers.specs.Order.{below}
-use Rattle.numbers.specs.Signed.{signed16, pattern16}
-use Rattle.numbers.proofs.Choices.{chosen}
 use Rattle.numbers.proofs.Orders.{below-is-lt}
-use Rattle.numbers.proofs.OrderLaws.{between-fits}
-use Rattle.signals.proofs.keeping.WordLaws.{pattern-read}
-use Rattle.signals.specs.Signal as signals
-use Rattle.signals.specs.declared.signal.Signal.{Signal}
 use Rattle.dictionary.specs.Names.{slot-of, writable}
-use Rattle.dictionary.specs.Unit.{signals-at, runs-at, flags-at, unit-size}
+use Rattle.dictionary.specs.Unit.{ramps-at, ramp-count-at, ramp-start-at, ramp-rising-at, ramp-fv1-at, ramp-fv2-at, ramp-used-at, unit-size}
 use Rattle.dictionary.proofs.naming.NameLaws.{counted}
-use Rattle.output.specs.Output.{byRule, command, faultOf}
+use Rattle.output.specs.Output.{driven}
 use Rattle.output.specs.Commanded.{Within, Names, Some-rule, Rules-1-to-6, Rule-7}
-use Rattle.output.specs.declared.Settings.{Settings}
-use Rattle.output.proofs.OutputLaws.{ramped-within, some-rule, rules-1-to-6, rule-7}
-use Rattle.unit.specs.Entry.{entry, whole, byte, time, publish}
+use Rattle.output.specs.declared.Motion.{Motion}
+use Rattle.output.proofs.MotionLaws.{Left, Settled, driven-left, ramp-word, motion-back}
+use Rattle.output.proofs.OutputLaws.{some-rule, rules-1-to-6, rule-7}
+use Rattle.unit.specs.Entry.{entry, whole, byte, time}
 use Rattle.unit.proofs.Slots.{stretch, has, array}
 use Rattle.unit.specs.Sources.{sourced}
-use Rattle.output.specs.Outputs.{settings, commandOf, outputTurn}
+use Rattle.output.specs.Outputs.{settings, motion, drivenOf, outputTurn}
 use Rattle.controller.specs.Tick.{ticked}
 use Rattle.controller.specs.Commands.{control, enable, override, ruleFor, Commanded}
 use Rattle.controller.specs.TickLaws.{before}
 use Rattle.controller.specs.Turns.{at-turn}
-use Rattle.controller.proofs.Kept.{Publishes, stands, fixed-last}
+use Rattle.controller.proofs.Kept.{Publishes, stands, register-first, set-keeps}
 use Rattle.controller.proofs.Numbers.{word-fits}
 use Rattle.controller.proofs.Seen.{alike-after, outputs-see}
 use Rattle.controller.proofs.TickLaws.{words-kept, tame, first-word}
-use Rattle.controller.proofs.Turns.{shown, last-shown, output-turn}
-
--- ---- a command is an INTEGER16
-
-command-fits : (s : Settings) (c e o : Signal) (last : ℤ) → s .fv1 <ℤ s .fv2 → SFits w16 (s .fv1) → SFits w16 (s .fv2) → SFits w16 (s .«fault_fv») → SFits w16 (s .«override_fv») → SFits w16 last
-    → SFits w16 (command s c e o last)
-unfolding command byRule faultOf
-command-fits s c e o last order f1 f2 ff fo fl =
-    let P = SFits w16 in
-    let none : P (pos 0) = record { sfits = lit< tt } in
-    let fault : P (faultOf s last) = chosen P (eqb (s .«fault_mode») 0) last (s .«fault_fv») (λ e. fl) (λ e. ff) in
-    let ramp = ramped-within s (signals.whole c) last order in
-    chosen P _ _ _ (λ e. none) (λ e. chosen P _ _ _ (λ e. fault) (λ e. chosen P _ _ _ (λ e. fo) (λ e. chosen P _ _ _ (λ e. fault)
-    (λ e. chosen P _ _ _ (λ e. fault) (λ e. chosen P _ _ _ (λ e. none) (λ e. between-fits (s .fv1) _ (s .fv2) f1 f2 (ramp .from) (ramp .to)))))))
+use Rattle.controller.proofs.Turns.{ramp, shown, last-shown, remembered, last-remembered, output-turn}
 
 -- ---- the configuration of an output, where the words of the configuration are the same
 
@@ -83,28 +65,43 @@ module _ (u v : List ℕ) (alike : (slot : ℕ) → slot < writable → getD u s
     unfolding byte entry
     same-signal source number e l f m = rw (word source e l, word number f m) (seen _ _)
 
-    same-command : (last : ℤ) → whole u 0x7330 (k + 1) ≡ last → commandOf u (k + 1) ≡ command (settings v (k + 1)) (control v (k + 1)) (enable v (k + 1)) (override v (k + 1)) last
-    unfolding commandOf control enable override has
-    same-command last e =
+    same-drive : (m : Motion) → motion u (k + 1) ≡ m → drivenOf u (k + 1) ≡ driven (settings v (k + 1)) (control v (k + 1)) (enable v (k + 1)) (override v (k + 1)) m
+    unfolding drivenOf control enable override has
+    same-drive m e =
         rw (same-settings, same-signal 0x2340 0x2341 refl (lit≤ tt) refl (lit≤ tt), same-signal 0x2350 0x2351 refl (lit≤ tt) refl (lit≤ tt), same-signal 0x2360 0x2361 refl (lit≤ tt) refl (lit≤ tt), e)
 
--- ---- 7330h, which only its own turn sets
+-- ---- 7330h and the words of the ramp, which only its own turn sets
+
+-- a motion is as it was where its seven words are
+pub same-motion : (u v : List ℕ) (k : ℕ) → entry v 0x7330 (k + 1) ≡ entry u 0x7330 (k + 1) → ((w : ℕ) → w < 6 → getD v (ramp-word k w) 0 ≡ getD u (ramp-word k w) 0) → motion v (k + 1) ≡ motion u (k + 1)
+unfolding motion whole ramps-at ramp-count-at ramp-start-at ramp-rising-at ramp-fv1-at ramp-fv2-at ramp-used-at
+same-motion u v k e words =
+    let i : k + 1 - 1 ≡ k = omega arith in
+    rw (i, e, words 0 (lit< tt), words 1 (lit< tt), words 2 (lit< tt), words 3 (lit< tt), words 4 (lit< tt), words 5 (lit< tt))
+
+-- no write of what can be written touches them
+pub motion-unwritten : (unit : List ℕ) (slot word k : ℕ) → slot < writable → k < 4 → motion (set unit slot word) (k + 1) ≡ motion unit (k + 1)
+unfolding entry ramps-at
+motion-unwritten unit slot word k l h =
+    same-motion unit (set unit slot word) k
+    (set-keeps {slot = slot-of 0x7330 (k + 1)} unit slot word (λ e. omega (arith, stands (Publishes.commanded k h), register-first)) .word)
+    (λ w g. set-keeps {slot = ramp-word k w} unit slot word (λ e. omega (arith, counted)) .word)
 
 module _ (samples : List ℤ) (unit : List ℕ) (size : length unit ≡ unit-size) (k : ℕ) (h : k < 4) where
-  last-command : whole (at-turn samples unit (16 + k)) 0x7330 (k + 1) ≡ whole unit 0x7330 (k + 1)
-  unfolding whole entry
-  last-command = ap signed16 (last-shown samples unit (Publishes.commanded k h) (omega arith))
+  last-motion : motion (at-turn samples unit (16 + k)) (k + 1) ≡ motion unit (k + 1)
+  unfolding entry
+  last-motion = same-motion _ _ k (last-shown samples unit (Publishes.commanded k h) (omega arith)) (λ w g. last-remembered samples unit (ramp k w h g) (omega arith))
 
-  given : SFits w16 (commandOf (at-turn samples unit (16 + k)) (k + 1)) → whole (ticked samples unit) 0x7330 (k + 1) ≡ commandOf (at-turn samples unit (16 + k)) (k + 1)
-  unfolding whole entry outputTurn publish unit-size flags-at runs-at signals-at
-  given fits =
-      let u = at-turn samples unit (16 + k) in
-      let p = Publishes.commanded k h in
-      let long : length u ≡ unit-size = tame samples unit (16 + k) (omega arith) 0 first-word .size ∙ size in
-      ap signed16 (shown samples unit p (omega arith)
-      ∙ ap (λ (v : List ℕ). getD v (slot-of 0x7330 (k + 1)) 0) (output-turn samples k h u)
-      ∙ getD-set-same u (slot-of 0x7330 (k + 1)) (pattern16 (commandOf u (k + 1))) 0 (omega (arith, stands p, fixed-last)))
-      ∙ pattern-read (commandOf u (k + 1)) fits
+  own-motion : let u = at-turn samples unit (16 + k) in motion (ticked samples unit) (k + 1) ≡ motion (outputTurn (k + 1) u) (k + 1)
+  unfolding entry
+  own-motion = let u = at-turn samples unit (16 + k) in
+      rw (← output-turn samples k h u)
+      (same-motion _ _ k (shown samples unit (Publishes.commanded k h) (omega arith)) (λ w g. remembered samples unit (ramp k w h g) (omega arith)))
+
+  given : let u = at-turn samples unit (16 + k) in Left (motion u (k + 1)) (drivenOf u (k + 1)) → motion (ticked samples unit) (k + 1) ≡ drivenOf u (k + 1)
+  unfolding outputTurn
+  given left = let u = at-turn samples unit (16 + k) in
+      own-motion ∙ motion-back u k (drivenOf u (k + 1)) h (tame samples unit (16 + k) (omega arith) 0 first-word .size ∙ size) left
 
   -- the command is what the output's rule gives by the unit after the tick
   module _ (order : below (whole unit 0x7321 (k + 1)) (whole unit 0x7323 (k + 1)) ≡ true) where
@@ -114,29 +111,45 @@ module _ (samples : List ℤ) (unit : List ℕ) (size : length unit ≡ unit-siz
         let same : (slot : ℕ) → slot < writable → getD (ticked samples unit) slot 0 ≡ getD unit slot 0 = λ slot l. words-kept samples unit slot (before l) in
         rw (word (ticked samples unit) unit same k h 0x7321 refl (lit≤ tt), word (ticked samples unit) unit same k h 0x7323 refl (lit≤ tt)) (below-is-lt _ _ order)
 
+    settled : Settled (settings (ticked samples unit) (k + 1))
+    unfolding settings whole entry time
+    settled = record {
+      order = ordered;
+      fv1 = word-fits _;
+      fv2 = word-fits _;
+      fault = word-fits _;
+      override = word-fits _;
+      up = mod-lt _ (lit< tt);
+      down = mod-lt _ (lit< tt);
+    }
+
     pub by-rule : let after = ticked samples unit in
-        whole after 0x7330 (k + 1) ≡ command (settings after (k + 1)) (control after (k + 1)) (enable after (k + 1)) (override after (k + 1)) (whole unit 0x7330 (k + 1))
-    unfolding settings whole entry
+        motion after (k + 1) ≡ driven (settings after (k + 1)) (control after (k + 1)) (enable after (k + 1)) (override after (k + 1)) (motion unit (k + 1))
+    unfolding motion whole entry
     by-rule =
         let after = ticked samples unit in
         let r : 16 + k ≤ 20 = omega arith in
-        let is = same-command (at-turn samples unit (16 + k)) after (λ slot l. alike-after samples unit (16 + k) r slot (before l)) k h
-        (outputs-see samples unit (16 + k) r (omega arith)) (whole unit 0x7330 (k + 1)) last-command in
-        let fits = command-fits (settings after (k + 1)) (control after (k + 1)) (enable after (k + 1)) (override after (k + 1)) (whole unit 0x7330 (k + 1)) ordered
-        (word-fits _) (word-fits _) (word-fits _) (word-fits _) (word-fits _) in
-        given (subst (SFits w16) (sym is) fits) ∙ is
+        let is = same-drive (at-turn samples unit (16 + k)) after (λ slot l. alike-after samples unit (16 + k) r slot (before l)) k h
+        (outputs-see samples unit (16 + k) r (omega arith)) (motion unit (k + 1)) last-motion in
+        let left = driven-left (settings after (k + 1)) settled (control after (k + 1)) (enable after (k + 1)) (override after (k + 1)) (motion unit (k + 1)) (last-fits unit) in
+        given (subst (λ (m : Motion). Left m (drivenOf (at-turn samples unit (16 + k)) (k + 1))) (sym last-motion) (subst (Left (motion unit (k + 1))) (sym is) left)) ∙ is
+      where
+        last-fits : (u : List ℕ) → SFits w16 (motion u (k + 1) .command)
+        last-fits u = word-fits _
 
     pub commanded : Commanded unit (ticked samples unit) (k + 1)
-    unfolding ruleFor settings Some-rule Rules-1-to-6 Rule-7
+    unfolding ruleFor settings motion Some-rule Rules-1-to-6 Rule-7
     commanded =
         let after = ticked samples unit in
         let s = settings after (k + 1) in
         let c = control after (k + 1) in
         let e = enable after (k + 1) in
         let o = override after (k + 1) in
-        let last = whole unit 0x7330 (k + 1) in
+        let m = motion unit (k + 1) in
+        let is = ap (λ (n : Motion). n .command) by-rule in
         record {
+          moves = by-rule;
           some = some-rule s c e o;
-          named = subst (Names s last (ruleFor after (k + 1))) (sym by-rule) (rules-1-to-6 s c e o last);
-          within = λ r. subst (Within (s .fv1) (s .fv2)) (sym by-rule) (rule-7 s c e o last ordered r);
+          named = subst (Names s (m .command) (ruleFor after (k + 1))) (sym is) (rules-1-to-6 s c e o m);
+          within = λ r. subst (Within (s .fv1) (s .fv2)) (sym is) (rule-7 s c e o m ordered r);
         }

@@ -8,14 +8,15 @@ use native.Mathlib.Nat.{eq-or-lt-of-le, le-of-suc-le-suc}
 use native.Mathlib.Numerals.{add-one}
 use native.Mathlib.Omega.{arith}
 use borrow.Author.Tests.{lt-ltb, le-ltb}
-use lib.Dec.{ltb, lit<}
+use lib.Dec.{eqb, ltb, lit<}
 use lib.IntN.{ℤ}
 use lib.ListN.{length, getD, set, length-set}
 use lib.Seq.{getD-set-other}
 use Rattle.numbers.specs.Choice.{first}
+use Rattle.numbers.proofs.Choices.{chosen}
 use Rattle.signals.specs.declared.signal.Signal.{Signal}
 use Rattle.dictionary.specs.Names.{slot-of, writable, words}
-use Rattle.dictionary.specs.Unit.{runs-at, flags-at}
+use Rattle.dictionary.specs.Unit.{runs-at, flags-at, ramps-at, ramp-count-at, ramp-start-at, ramp-rising-at, ramp-fv1-at, ramp-fv2-at, ramp-used-at}
 use Rattle.dictionary.proofs.naming.NameLaws.{counted}
 use Rattle.unit.specs.Each.{each}
 use Rattle.unit.specs.Entry.{publish}
@@ -27,7 +28,10 @@ use Rattle.math.specs.Maths.{mathTurn}
 use Rattle.table.specs.Tables.{of-table, tableTurn}
 use Rattle.logic.specs.Logics.{logicTurn}
 use Rattle.input.specs.Inputs.{remember, inputTurn}
+use Rattle.output.specs.Outputs as output
 use Rattle.output.specs.Outputs.{outputTurn}
+use Rattle.output.specs.declared.Motion.{Motion}
+use Rattle.output.proofs.MotionLaws.{ramp-word}
 use Rattle.controller.specs.Register.{registered}
 
 -- the word at a slot is as it was, and so is the length
@@ -127,9 +131,21 @@ module _ {slot : ℕ} where
     unfolding logicTurn
     logic-keeps other another clear u = joined (publish-keeps u 0x4010 (k + 1) _ other) (joined (publish-keeps _ 0x4020 (k + 1) _ another) (lay-keeps _ logics (k + 1) _ clear))
 
-    pub output-keeps : (slot ≡ slot-of 0x7330 (k + 1) → ⊥) → (u : List ℕ) → Kept slot u (outputTurn (k + 1) u)
-    unfolding outputTurn
-    output-keeps other u = publish-keeps u 0x7330 (k + 1) _ other
+    module _ (others : (w : ℕ) → w < 6 → slot ≡ ramp-word k w → ⊥) where
+      noted-keeps : (u : List ℕ) (m : Motion) → Kept slot u (output.noted u (k + 1) m)
+      unfolding output.noted ramps-at ramp-start-at ramp-rising-at ramp-fv1-at ramp-fv2-at ramp-used-at
+      noted-keeps u m =
+          joined (set-keeps u (ramp-start-at + (k + 1 - 1)) _ (λ e. others 1 (lit< tt) (omega arith)))
+          (joined (set-keeps _ (ramp-rising-at + (k + 1 - 1)) _ (λ e. others 2 (lit< tt) (omega arith)))
+          (joined (set-keeps _ (ramp-fv1-at + (k + 1 - 1)) _ (λ e. others 3 (lit< tt) (omega arith)))
+          (joined (set-keeps _ (ramp-fv2-at + (k + 1 - 1)) _ (λ e. others 4 (lit< tt) (omega arith)))
+          (set-keeps _ (ramp-used-at + (k + 1 - 1)) _ (λ e. others 5 (lit< tt) (omega arith))))))
+
+      pub output-keeps : (slot ≡ slot-of 0x7330 (k + 1) → ⊥) → (u : List ℕ) → Kept slot u (outputTurn (k + 1) u)
+      unfolding outputTurn output.remember ramps-at ramp-count-at
+      output-keeps other u = let m = output.drivenOf u (k + 1) in
+          joined (chosen (Kept slot u) (eqb (m .count) 1) (output.noted u (k + 1) m) u (λ e. noted-keeps u m) (λ e. same))
+          (joined (publish-keeps _ 0x7330 (k + 1) _ other) (set-keeps _ (ramp-count-at + (k + 1 - 1)) _ (λ e. others 0 (lit< tt) (omega arith))))
 
     pub input-keeps : (slot ≡ slot-of 0x7100 (k + 1) → ⊥) → (slot ≡ slot-of 0x7130 (k + 1) → ⊥) → Clear slot inputs (k + 1)
         → (slot ≡ runs-at + k → ⊥) × (slot ≡ flags-at + k → ⊥) → (sample : ℤ) (u : List ℕ) → Kept slot u (inputTurn sample (k + 1) u)

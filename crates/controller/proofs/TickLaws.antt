@@ -11,7 +11,7 @@ use lib.ListN.{length}
 use lib.Seq.{getD-set-same}
 use Rattle.numbers.specs.Choice.{first}
 use Rattle.dictionary.specs.Names.{slot-of, words}
-use Rattle.dictionary.specs.Unit.{signals-at, runs-at, flags-at, unit-size}
+use Rattle.dictionary.specs.Unit.{signals-at, runs-at, flags-at, ramps-at, unit-size}
 use Rattle.dictionary.proofs.naming.NameLaws.{counted}
 use Rattle.unit.specs.Entry.{entry, publish}
 use Rattle.unit.specs.Held.{place}
@@ -38,8 +38,8 @@ apart (before h) row at p e = omega (arith, stands p, register-first)
 apart (after h g) row at p e = omega (arith, stands p)
 
 spared : {slot : ℕ} → Unpublished slot → (j : ℕ) → Spared slot j
-unfolding place signals-at runs-at flags-at
-spared u j = let h = in-words u in record { unpublished = apart u j; memory = λ l. (λ e. omega arith, λ e. omega arith); signal = λ l. (λ e. omega arith, λ e. omega arith) }
+unfolding place signals-at runs-at flags-at ramps-at
+spared u j = let h = in-words u in record { unpublished = apart u j; memory = λ l. (λ e. omega arith, λ e. omega arith); signal = λ l. (λ e. omega arith, λ e. omega arith); ramp = λ l q w g e. omega arith }
 
 pub first-word : Unpublished 0
 first-word = before {slot = 0} (omega (arith, counted))

@@ -12,14 +12,15 @@ use Rattle.numbers.specs.Choice.{first}
 use Rattle.numbers.proofs.Choices.{chosen}
 use Rattle.dictionary.specs.Names.{slot-of}
 use Rattle.dictionary.proofs.naming.NameLaws.{counted}
-use Rattle.dictionary.specs.Unit.{signals-at, runs-at, flags-at}
+use Rattle.dictionary.specs.Unit.{signals-at, runs-at, flags-at, ramps-at}
 use Rattle.unit.specs.Each.{each}
-use Rattle.unit.specs.Held.{inputs, maths, tables, logics, place, at-row, held}
+use Rattle.unit.specs.Held.{inputs, maths, tables, logics, blocks, place, at-row, held}
 use Rattle.math.specs.Maths.{mathTurn}
 use Rattle.table.specs.Tables.{tableTurn}
 use Rattle.logic.specs.Logics.{logicTurn}
 use Rattle.input.specs.Inputs.{inputTurn}
 use Rattle.output.specs.Outputs.{outputTurn}
+use Rattle.output.proofs.MotionLaws.{ramp-word}
 use Rattle.controller.specs.Register.{registered}
 use Rattle.controller.specs.Tick.{ticked}
 use Rattle.controller.specs.Turns.{turnOf, at-turn, Seen-by}
@@ -30,6 +31,7 @@ pub record Spared (slot j : ℕ) : Type 0 where
   pub unpublished : (at : ℕ) → Publishes j at → slot ≡ at → ⊥
   pub memory : j < 4 → (slot ≡ runs-at + j → ⊥) × (slot ≡ flags-at + j → ⊥)
   pub signal : j < 16 → (slot ≡ place j → ⊥) × (slot ≡ place j + 1 → ⊥)
+  pub ramp : 16 ≤ j → j < 20 → (w : ℕ) → w < 6 → slot ≡ ramp-word (j - 16) w → ⊥
 
 module _ (samples : List ℤ) where
   pub turn-keeps : {slot : ℕ} (j : ℕ) → j < 20 → Spared slot j → (u : List ℕ) → Kept slot u (turnOf samples (j + 1) u)
@@ -48,7 +50,7 @@ module _ (samples : List ℤ) where
       (λ e. let l = ltb-true (j + 1) 17 e in let is : 14 + (j - 14) ≡ j = omega arith in let k : j + 1 - 14 ≡ j - 14 + 1 = omega arith in
       rw k (logic-keeps (j - 14) (s .unpublished _ (rw is at (selected (j - 14) (omega arith)))) (s .unpublished _ (rw is at (passed-on (j - 14) (omega arith)))) (own logics (j - 14) (omega arith) (omega arith)) u))
       (λ e. let l = ltb-false (j + 1) 17 e in let is : 16 + (j - 16) ≡ j = omega arith in let k : j + 1 - 16 ≡ j - 16 + 1 = omega arith in
-      rw k (output-keeps (j - 16) (s .unpublished _ (rw is at (commanded (j - 16) (omega arith)))) u)))))
+      rw k (output-keeps (j - 16) (s .ramp (omega arith) h) (s .unpublished _ (rw is at (commanded (j - 16) (omega arith)))) u)))))
     where
       own : (kind k : ℕ) → j ≡ kind + k → j < 16 → Clear slot kind (k + 1)
       own kind k e l = let clear = s .signal l in (λ q. clear .0 (omega arith), λ q. clear .1 (omega arith))
@@ -74,12 +76,13 @@ module _ (samples : List ℤ) where
 -- ---- the two words of a signal, which only its own turn sets
 
 row-spared : {row slot : ℕ} → row < 16 → Of-row row slot → (j : ℕ) → (j ≡ row → ⊥) → Spared slot j
-unfolding place signals-at runs-at flags-at
+unfolding place signals-at runs-at flags-at ramps-at
 row-spared h r j other =
     record {
       unpublished = λ at p e. omega (arith, r .low, stands p, fixed-last);
       memory = λ l. (λ e. omega (arith, r .high), λ e. omega (arith, r .high));
       signal = λ l. (λ e. other (omega (arith, r .low, r .high)), λ e. other (omega (arith, r .low, r .high)));
+      ramp = λ l q w g e. omega (arith, r .high);
     }
 
 row-last : {row slot : ℕ} → Of-row row slot → slot ≡ slot-of 0x1001 0 → ⊥
@@ -103,13 +106,14 @@ seen-by samples unit r q h l = (
 -- ---- a word that a block publishes, which only its own turn sets
 
 own-only : {q at : ℕ} → Publishes q at → (j : ℕ) → (j ≡ q → ⊥) → Spared at j
-unfolding place signals-at runs-at flags-at
+unfolding place signals-at runs-at flags-at ramps-at
 own-only p j other =
     let mine = stands p in
     record {
       unpublished = λ b o e. other (sym (stands o .owned) ∙ ap (λ (a : ℕ). owner (a - slot-of 0x1001 0)) (sym e) ∙ mine .owned);
       memory = λ l. (λ e. omega (arith, fixed-last), λ e. omega (arith, fixed-last));
       signal = λ l. (λ e. omega (arith, fixed-last), λ e. omega (arith, fixed-last));
+      ramp = λ l q w g e. omega (arith, fixed-last);
     }
 
 module _ (samples : List ℤ) (unit : List ℕ) {q at : ℕ} (p : Publishes q at) (h : q < 20) where
@@ -120,33 +124,44 @@ module _ (samples : List ℤ) (unit : List ℕ) {q at : ℕ} (p : Publishes q at
   pub last-shown : getD (at-turn samples unit q) at 0 ≡ getD unit at 0
   last-shown = until samples unit q (omega arith) (λ j l. own-only p j (λ e. omega arith)) .word
 
--- ---- an input's run and flag
+-- ---- an input's run and flag, and the six words of an output's ramp
 
 pub data Remembers : ℕ → ℕ → Type 0 where
   run : (k : ℕ) → k < 4 → Remembers (inputs + k) (runs-at + k)
   flag : (k : ℕ) → k < 4 → Remembers (inputs + k) (flags-at + k)
+  ramp : (k w : ℕ) → k < 4 → w < 6 → Remembers (blocks + k) (ramp-word k w)
 
 memory-spared : {row at : ℕ} → Remembers row at → (j : ℕ) → (j ≡ row → ⊥) → Spared at j
-unfolding place signals-at runs-at flags-at
+unfolding place signals-at runs-at flags-at ramps-at
 memory-spared (run k h) j other =
     record {
       unpublished = λ b p e. omega (arith, stands p, fixed-last);
       memory = λ l. (λ e. other (omega arith), λ e. omega arith);
       signal = λ l. (λ e. omega arith, λ e. omega arith);
+      ramp = λ l q w g e. omega arith;
     }
 memory-spared (flag k h) j other =
     record {
       unpublished = λ b p e. omega (arith, stands p, fixed-last);
       memory = λ l. (λ e. omega arith, λ e. other (omega arith));
       signal = λ l. (λ e. omega arith, λ e. omega arith);
+      ramp = λ l q w g e. omega arith;
+    }
+memory-spared (ramp k w h g) j other =
+    record {
+      unpublished = λ b p e. omega (arith, stands p, fixed-last);
+      memory = λ l. (λ e. omega arith, λ e. omega arith);
+      signal = λ l. (λ e. omega arith, λ e. omega arith);
+      ramp = λ l q v f e. other (omega arith);
     }
 
 not-register : {row at : ℕ} → Remembers row at → at ≡ slot-of 0x1001 0 → ⊥
-unfolding signals-at runs-at flags-at
+unfolding signals-at runs-at flags-at ramps-at
 not-register (run k h) e = omega (arith, register-first, counted)
 not-register (flag k h) e = omega (arith, register-first, counted)
+not-register (ramp k w h g) e = omega (arith, register-first, counted)
 
-module _ (samples : List ℤ) (unit : List ℕ) {row at : ℕ} (m : Remembers row at) (h : row < 4) where
+module _ (samples : List ℤ) (unit : List ℕ) {row at : ℕ} (m : Remembers row at) (h : row < 20) where
   pub remembered : getD (ticked samples unit) at 0 ≡ getD (turnOf samples (row + 1) (at-turn samples unit row)) at 0
   remembered = to-last samples unit (not-register m) (since samples unit row 20 (omega arith) (lit≤ tt) (λ j l other. memory-spared m j other)) .word
 

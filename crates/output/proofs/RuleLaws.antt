@@ -3,12 +3,13 @@
 use Prim.Native.Nat.{ℕ}
 use mathlib.Core.Bool.{Bool, true, false}
 use mathlib.Core.Path.{_≡_, refl}
-use lib.IntN.{ℤ, pos}
+use lib.IntN.{pos}
 use Rattle.numbers.specs.Choice.{first}
 use Rattle.signals.specs.Signal.{isError, isAbsent, whole}
 use Rattle.signals.specs.declared.signal.Signal.{Signal}
-use Rattle.output.specs.Output.{rule, ruleOf, faultOf, ramped, byRule, command}
+use Rattle.output.specs.Output.{rule, ruleOf, faultOf, ramped, rests, byRule, driven}
 use Rattle.output.specs.Turning.{turnedOn, turnedOff}
+use Rattle.output.specs.declared.Motion.{Motion}
 use Rattle.output.specs.declared.Settings.{Settings}
 
 -- the first test that holds gives its answer, whether it is looked for by its place or not
@@ -24,16 +25,16 @@ firsts answer false false false false true b6 = refl
 firsts answer false false false false false true = refl
 firsts answer false false false false false false = refl
 
-pub by-signals : (s : Settings) (control enable over : Signal) (last : ℤ) →
-    command s control enable over last ≡
-    first (turnedOff (s .«enable_response») enable) (pos 0)
-    (first (isError enable) (faultOf s last)
-    (first (turnedOn (s .«override_response») over) (s .«override_fv»)
-    (first (isError over) (faultOf s last)
-    (first (isError control) (faultOf s last)
-    (first (isAbsent control) (pos 0)
-    (ramped s (whole control) last))))))
-unfolding command ruleOf rule byRule first
-by-signals s control enable over last =
-    firsts (λ (n : ℕ). byRule n s (whole control) last)
+pub by-signals : (s : Settings) (control enable over : Signal) (m : Motion) →
+    driven s control enable over m ≡
+    first (turnedOff (s .«enable_response») enable) (rests (pos 0))
+    (first (isError enable) (rests (faultOf s (m .command)))
+    (first (turnedOn (s .«override_response») over) (rests (s .«override_fv»))
+    (first (isError over) (rests (faultOf s (m .command)))
+    (first (isError control) (rests (faultOf s (m .command)))
+    (first (isAbsent control) (rests (pos 0))
+    (ramped s (whole control) m))))))
+unfolding driven ruleOf rule byRule first
+by-signals s control enable over m =
+    firsts (λ (n : ℕ). byRule n s (whole control) m)
     (turnedOff (s .«enable_response») enable) (isError enable) (turnedOn (s .«override_response») over) (isError over) (isError control) (isAbsent control)

@@ -6,7 +6,8 @@ use lib.IntN.{ℤ, pos}
 use lib.Signed.{_≤ℤ_, _<ℤ_}
 use Rattle.signals.specs.declared.signal.Signal.{Signal}
 use Rattle.output.specs.declared.Settings.{Settings}
-use Rattle.output.specs.Output.{ruleOf, faultOf, command}
+use Rattle.output.specs.Output.{ruleOf, faultOf, driven}
+use Rattle.output.specs.declared.Motion.{Motion}
 
 -- a number between two others
 pub record Within (low high z : ℤ) : Type 0 where
@@ -27,9 +28,10 @@ unfoldable pub Some-rule : Type 0
 Some-rule = (s : Settings) (control enable over : Signal) → (1 ≤ ruleOf s control enable over) × (ruleOf s control enable over ≤ 7)
 
 unfoldable pub Rules-1-to-6 : Type 0
-Rules-1-to-6 = (s : Settings) (control enable over : Signal) (last : ℤ) → Names s last (ruleOf s control enable over) (command s control enable over last)
+Rules-1-to-6 = (s : Settings) (control enable over : Signal) (m : Motion)
+    → Names s (m .command) (ruleOf s control enable over) (driven s control enable over m .command)
 
 -- FV1 lies below FV2 in every configuration that may stand
 unfoldable pub Rule-7 : Type 0
-Rule-7 = (s : Settings) (control enable over : Signal) (last : ℤ) → s .fv1 <ℤ s .fv2 → ruleOf s control enable over ≡ 7
-    → Within (s .fv1) (s .fv2) (command s control enable over last)
+Rule-7 = (s : Settings) (control enable over : Signal) (m : Motion) → s .fv1 <ℤ s .fv2 → ruleOf s control enable over ≡ 7
+    → Within (s .fv1) (s .fv2) (driven s control enable over m .command)

@@ -1,4 +1,5 @@
 pub mod Commanded
+pub mod Lasting
 pub mod Output
 pub mod Outputs
 pub mod Rules

@@ -8,21 +8,22 @@ use Rattle.numbers.specs.Choice.{first}
 use Rattle.signals.specs.Signal.{isError}
 use Rattle.output.specs.Turning.{turnedOff}
 use Rattle.output.proofs.RuleLaws.{by-signals}
-use Rattle.unit.specs.Entry.{whole, byte}
+use Rattle.unit.specs.Entry.{byte}
 use Rattle.unit.specs.Sources.{sourced}
-use Rattle.output.specs.Outputs.{settings, commandOf}
+use Rattle.output.specs.Outputs.{settings, motion, drivenOf}
+use Rattle.output.specs.Output.{rests}
 use Rattle.output.specs.Rules.{faultFor, controlled, overridden}
 
 module _ (unit : List ℕ) (n : ℕ) where
   -- "(1) enable off: 0; (2) enable error: fault"
-  pub by-enable : commandOf unit n ≡
-      first (turnedOff (byte unit 0x2352 n) (sourced unit (byte unit 0x2350 n) (byte unit 0x2351 n))) (pos 0)
-      (first (isError (sourced unit (byte unit 0x2350 n) (byte unit 0x2351 n))) (faultFor unit n)
+  pub by-enable : drivenOf unit n ≡
+      first (turnedOff (byte unit 0x2352 n) (sourced unit (byte unit 0x2350 n) (byte unit 0x2351 n))) (rests (pos 0))
+      (first (isError (sourced unit (byte unit 0x2350 n) (byte unit 0x2351 n))) (rests (faultFor unit n))
       (overridden unit n))
-  unfolding commandOf overridden controlled faultFor settings
+  unfolding drivenOf overridden controlled faultFor settings motion
   by-enable =
       by-signals (settings unit n)
       (sourced unit (byte unit 0x2340 n) (byte unit 0x2341 n))
       (sourced unit (byte unit 0x2350 n) (byte unit 0x2351 n))
       (sourced unit (byte unit 0x2360 n) (byte unit 0x2361 n))
-      (whole unit 0x7330 n)
+      (motion unit n)

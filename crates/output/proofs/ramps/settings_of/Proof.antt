@@ -7,8 +7,8 @@ use Rattle.unit.proofs.Slots.{has}
 use Rattle.output.specs.Outputs.{settings}
 use Rattle.unit.proofs.WordLaws.{whole-is, byte-is, time-is}
 use borrow.Author.Needs.{needs}
-use Rattle.output.proofs.turns.settings_of.Statement.{statement}
-use Rattle.output.proofs.turns.settings_of.Tie as tie
+use Rattle.output.proofs.ramps.settings_of.Statement.{statement}
+use Rattle.output.proofs.ramps.settings_of.Tie as tie
 
 add-byte-at : tie.Need-add-byte-at
 add-byte-at c = search needs

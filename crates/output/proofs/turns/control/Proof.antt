@@ -1,15 +1,16 @@
 -- Rules 5 to 7 by the control alone.
 -- Assumes nothing.
 use Prim.Native.Nat.{_+_, _<_}
-use mathlib.Core.Path.{_≡_, refl, _∙_}
+use mathlib.Core.Path.{_≡_, refl, ap, _∙_}
 use native.Mathlib.Omega.{arith}
 use Rattle.numbers.proofs.ExactLaws.{back}
 use Rattle.numbers.specs.Choice.{first}
 use Rattle.unit.proofs.Slots.{has}
 use Rattle.unit.specs.Entry.{byte}
 use Rattle.unit.specs.Sources.{sourced}
+use Rattle.output.specs.Output.{rests}
 use Rattle.output.specs.Rules.{controlled}
-use Rattle.unit.proofs.WordLaws.{byte-is, whole-is}
+use Rattle.unit.proofs.WordLaws.{byte-is}
 use borrow.Author.Needs.{needs}
 use Rattle.output.proofs.turns.control.Statement.{statement}
 use Rattle.output.proofs.turns.control.Tie as tie
@@ -46,54 +47,44 @@ failed-requires c κs = search needs
 fault-requires : tie.Need-fault-requires
 fault-requires c κs = search needs
 
+rest-requires : tie.Need-rest-requires
+rest-requires c κs = search needs
+
 returns : tie.Need-returns
 unfolding controlled first
-returns c = let f = c .before .before in
-    rw (← control (f .before), ← f .failed .ensures, c .before .if1 .taken) (back (c .fault .ok) (c .fault .ensures))
+returns c = let f = c .before .before .before in
+    rw (← control (f .before), ← f .failed .ensures, c .before .before .if1 .taken) (c .rest .ensures ∙ ap rests (back (c .before .fault .ok) (c .before .fault .ensures)))
 
 absent-requires : tie.Need-absent-requires
 absent-requires c κs = search needs
 
+rest-requires-2 : tie.Need-rest-requires-2
+rest-requires-2 c κs = search needs
+
 returns-2 : tie.Need-returns-2
 unfolding controlled first
-returns-2 c = let f = c .before .before .before in
-    rw (← control (f .before), ← f .failed .ensures, c .before .before .if1 .left, ← c .before .absent .ensures, c .if2 .taken)
-
-settings-of-requires : tie.Need-settings-of-requires
-settings-of-requires c κs = search needs
+returns-2 c = let f = c .before .before .before .before in
+    rw (← control (f .before), ← f .failed .ensures, c .before .before .before .if1 .left, ← c .before .before .absent .ensures, c .before .if2 .taken) (c .rest2 .ensures)
 
 as-whole-requires : tie.Need-as-whole-requires
 as-whole-requires c κs = search needs
-
-add-whole-at : tie.Need-add-whole-at
-add-whole-at c = search needs
-
-whole-at-requires : tie.Need-whole-at-requires
-whole-at-requires c κs = search needs
 
 ramp-requires : tie.Need-ramp-requires
 ramp-requires c κs = search needs
 
 returns-3 : tie.Need-returns-3
-unfolding controlled first has
-returns-3 c = let e = c .before .before .before .before in
+unfolding controlled first
+returns-3 c = let e = c .before .before in
     let f = e .before .before .before in
-    let a = f .before .before .before .before .args in
-    let u = a .unit .now in
-    let k = a .k in
-    let h : k < 4 = omega arith in
-    back (c .ramp .ok)
-    (c .ramp .ensures
+    c .ramp .ensures
     ∙ rw (
-      c .before .before .before .settings-of .ensures,
-      back (c .before .before .as-whole .ok) (c .before .before .as-whole .ensures),
-      whole-is 0x7330 u k h (c .before .whole-at .ok) (c .before .whole-at .ensures) refl,
+      back (c .before .as-whole .ok) (c .before .as-whole .ensures),
       ← control (f .before),
       ← f .failed .ensures,
       e .before .before .if1 .left,
       ← e .before .absent .ensures,
       e .if2 .left,
-    ))
+    )
 
 pub control-spec : {M : Type 1} → statement M
 control-spec =
@@ -106,12 +97,11 @@ control-spec =
     look-up-requires
     failed-requires
     fault-requires
+    rest-requires
     returns
     absent-requires
+    rest-requires-2
     returns-2
-    settings-of-requires
     as-whole-requires
-    add-whole-at
-    whole-at-requires
     ramp-requires
     returns-3)

@@ -1,10 +1,11 @@
 -- Rules 1 and 2 by the enable alone.
 -- Assumes nothing.
 use Prim.Native.Nat.{_+_, _<_}
-use mathlib.Core.Path.{_≡_, refl}
+use mathlib.Core.Path.{_≡_, refl, ap, _∙_}
 use native.Mathlib.Omega.{arith}
 use Rattle.numbers.proofs.ExactLaws.{back}
 use Rattle.numbers.specs.Choice.{first}
+use Rattle.output.specs.Output.{rests}
 use Rattle.output.specs.Turning.{turnedOff}
 use Rattle.unit.proofs.Slots.{has}
 use Rattle.unit.specs.Entry.{byte}
@@ -12,8 +13,8 @@ use Rattle.unit.specs.Sources.{sourced}
 use Rattle.output.proofs.turns.RuleLaws.{by-enable}
 use Rattle.unit.proofs.WordLaws.{byte-is}
 use borrow.Author.Needs.{needs}
-use Rattle.output.proofs.turns.command_of.Statement.{statement}
-use Rattle.output.proofs.turns.command_of.Tie as tie
+use Rattle.output.proofs.turns.drive.Statement.{statement}
+use Rattle.output.proofs.turns.drive.Tie as tie
 
 -- what the enable is
 enable : (s : tie.After-look-up) → let a = s .before .before .before .args in
@@ -61,10 +62,14 @@ byte-at-requires-3 c κs = search needs
 turned-off-requires : tie.Need-turned-off-requires
 turned-off-requires c κs = search needs
 
+rest-requires : tie.Need-rest-requires
+rest-requires c κs = search needs
+
 returns : tie.Need-returns
 unfolding first
-returns c = let a = c .before .before .before .before .before .before .args in
-    rw (by-enable (a .unit .now) (a .k + 1), ← off (c .before), c .if1 .taken)
+returns c = let t = c .before .before in
+    let a = t .before .before .before .before .before .args in
+    rw (by-enable (a .unit .now) (a .k + 1), ← off t, c .before .if1 .taken) (c .rest .ensures)
 
 failed-requires : tie.Need-failed-requires
 failed-requires c κs = search needs
@@ -72,12 +77,15 @@ failed-requires c κs = search needs
 fault-requires : tie.Need-fault-requires
 fault-requires c κs = search needs
 
+rest-requires-2 : tie.Need-rest-requires-2
+rest-requires-2 c κs = search needs
+
 returns-2 : tie.Need-returns-2
 unfolding first
-returns-2 c = let f = c .before .before in
+returns-2 c = let f = c .before .before .before in
     let t = f .before .before in
     let a = t .before .before .before .before .before .args in
-    rw (by-enable (a .unit .now) (a .k + 1), ← off t, f .before .if1 .left, ← enable (t .before .before), ← f .failed .ensures, c .before .if2 .taken) (back (c .fault .ok) (c .fault .ensures))
+    rw (by-enable (a .unit .now) (a .k + 1), ← off t, f .before .if1 .left, ← enable (t .before .before), ← f .failed .ensures, c .before .before .if2 .taken) (c .rest2 .ensures ∙ ap rests (back (c .before .fault .ok) (c .before .fault .ensures)))
 
 override-or-control-requires : tie.Need-override-or-control-requires
 override-or-control-requires c κs = search needs
@@ -87,10 +95,10 @@ unfolding first
 returns-3 c = let f = c .before .before in
     let t = f .before .before in
     let a = t .before .before .before .before .before .args in
-    rw (by-enable (a .unit .now) (a .k + 1), ← off t, f .before .if1 .left, ← enable (t .before .before), ← f .failed .ensures, c .before .if2 .left) (back (c .override-or-control .ok) (c .override-or-control .ensures))
+    rw (by-enable (a .unit .now) (a .k + 1), ← off t, f .before .if1 .left, ← enable (t .before .before), ← f .failed .ensures, c .before .if2 .left) (c .override-or-control .ensures)
 
-pub command-of-spec : {M : Type 1} → statement M
-command-of-spec =
+pub drive-spec : {M : Type 1} → statement M
+drive-spec =
     tie.close
     (tie.spec
     add-byte-at
@@ -101,9 +109,11 @@ command-of-spec =
     add-byte-at-3
     byte-at-requires-3
     turned-off-requires
+    rest-requires
     returns
     failed-requires
     fault-requires
+    rest-requires-2
     returns-2
     override-or-control-requires
     returns-3)

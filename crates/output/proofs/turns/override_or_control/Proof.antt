@@ -1,7 +1,7 @@
 -- Rules 3 and 4 by the override alone.
 -- Assumes nothing.
 use Prim.Native.Nat.{_+_, _<_}
-use mathlib.Core.Path.{_≡_, refl}
+use mathlib.Core.Path.{_≡_, refl, ap, _∙_}
 use native.Mathlib.Omega.{arith}
 use Rattle.numbers.proofs.ExactLaws.{back}
 use Rattle.numbers.specs.Choice.{first}
@@ -9,6 +9,7 @@ use Rattle.output.specs.Turning.{turnedOn}
 use Rattle.unit.proofs.Slots.{has}
 use Rattle.unit.specs.Entry.{byte}
 use Rattle.unit.specs.Sources.{sourced}
+use Rattle.output.specs.Output.{rests}
 use Rattle.output.specs.Rules.{overridden}
 use Rattle.unit.proofs.WordLaws.{byte-is, whole-is}
 use borrow.Author.Needs.{needs}
@@ -67,13 +68,17 @@ add-whole-at c = search needs
 whole-at-requires : tie.Need-whole-at-requires
 whole-at-requires c κs = search needs
 
+rest-requires : tie.Need-rest-requires
+rest-requires c κs = search needs
+
 returns : tie.Need-returns
 unfolding overridden first has
-returns c = let a = c .before .before .before .before .before .before .before .args in
+returns c = let t = c .before .before .before in
+    let a = t .before .before .before .before .before .args in
     let u = a .unit .now in
     let k = a .k in
     let h : k < 4 = omega arith in
-    rw (← on (c .before .before), c .before .if1 .taken) (whole-is 0x2300 u k h (c .whole-at .ok) (c .whole-at .ensures) refl)
+    rw (← on t, c .before .before .if1 .taken) (c .rest .ensures ∙ ap rests (whole-is 0x2300 u k h (c .before .whole-at .ok) (c .before .whole-at .ensures) refl))
 
 failed-requires : tie.Need-failed-requires
 failed-requires c κs = search needs
@@ -81,11 +86,14 @@ failed-requires c κs = search needs
 fault-requires : tie.Need-fault-requires
 fault-requires c κs = search needs
 
+rest-requires-2 : tie.Need-rest-requires-2
+rest-requires-2 c κs = search needs
+
 returns-2 : tie.Need-returns-2
 unfolding overridden first
-returns-2 c = let f = c .before .before in
+returns-2 c = let f = c .before .before .before in
     let t = f .before .before in
-    rw (← on t, f .before .if1 .left, ← over (t .before .before), ← f .failed .ensures, c .before .if2 .taken) (back (c .fault .ok) (c .fault .ensures))
+    rw (← on t, f .before .if1 .left, ← over (t .before .before), ← f .failed .ensures, c .before .before .if2 .taken) (c .rest2 .ensures ∙ ap rests (back (c .before .fault .ok) (c .before .fault .ensures)))
 
 control-requires : tie.Need-control-requires
 control-requires c κs = search needs
@@ -94,7 +102,7 @@ returns-3 : tie.Need-returns-3
 unfolding overridden first
 returns-3 c = let f = c .before .before in
     let t = f .before .before in
-    rw (← on t, f .before .if1 .left, ← over (t .before .before), ← f .failed .ensures, c .before .if2 .left) (back (c .control .ok) (c .control .ensures))
+    rw (← on t, f .before .if1 .left, ← over (t .before .before), ← f .failed .ensures, c .before .if2 .left) (c .control .ensures)
 
 pub override-or-control-spec : {M : Type 1} → statement M
 override-or-control-spec =
@@ -110,9 +118,11 @@ override-or-control-spec =
     turned-on-requires
     add-whole-at
     whole-at-requires
+    rest-requires
     returns
     failed-requires
     fault-requires
+    rest-requires-2
     returns-2
     control-requires
     returns-3)
