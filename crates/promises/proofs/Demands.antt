@@ -2,6 +2,7 @@
 -- Assumes nothing.
 use Rattle.dictionary.proofs.OneEach as OneEach
 use Rattle.numbers.proofs.Bound as Bound
+use Rattle.output.proofs.Lasting as Lasting
 use Rattle.table.proofs.Curves as curves
 use Rattle.promises.specs.Demands.{Demand-1, Demand-2, Demand-3, Asked-for}
 use Rattle.promises.proofs.Bench as Bench
@@ -10,6 +11,7 @@ use Rattle.promises.proofs.ByWay as ByWay
 use Rattle.promises.proofs.FrameRefusals as FrameRefusals
 use Rattle.promises.proofs.Images as Images
 use Rattle.promises.proofs.ImageRefusals as ImageRefusals
+use Rattle.promises.proofs.Ramps as Ramps
 use Rattle.promises.proofs.Restoring as Restoring
 use Rattle.promises.proofs.Running as Running
 use Rattle.promises.proofs.Ticking as Ticking
@@ -94,6 +96,15 @@ demand-3 =
 pub asked-for : Asked-for
 asked-for =
     record {
+      lasts = Lasting.lasts;
+      every-ramp-lasts = Ramps.every-ramp-lasts;
+      moves-on = Lasting.moves-on;
+      every-ramp-moves-on = Ramps.every-ramp-moves-on;
+      on-time = Lasting.on-time;
+      every-ramp-on-time = Ramps.every-ramp-on-time;
+      at-once = Lasting.at-once;
+      every-ramp-0-at-once = Ramps.every-ramp-0-at-once;
+      starts-again = Ramps.starts-again;
       fits-32-bits = Bound.fits-32-bits;
       never-dips = curves.never-dips;
       tables-never-dip = Curves.tables-never-dip;

@@ -11,6 +11,7 @@ pub mod Judged
 pub mod ListFrames
 pub mod Listed
 pub mod Proper
+pub mod Ramps
 pub mod Reached
 pub mod ReadBack
 pub mod RecordFrames

@@ -92,7 +92,7 @@ kept-by-frame unit f room (Written slot word) e =
     let below = Accepted.accepted unit f room slot word e .below in
     (length-set unit slot word, Tick.flags-unwritten unit slot word below, Tick.register-unwritten unit slot word below)
 
-sound-after-frame : (unit f : List ℕ) (room : ℕ) → Bytes f → Sound unit → Sound (happens (frame f room) unit)
+pub sound-after-frame : (unit f : List ℕ) (room : ℕ) → Bytes f → Sound unit → Sound (happens (frame f room) unit)
 unfolding happens
 sound-after-frame unit f room b h =
     let k = kept-by-frame unit f room (answer unit f room) refl in
@@ -106,7 +106,7 @@ sound-after-frame unit f room b h =
 pub kept-by-tick : (samples : List ℤ) (unit : List ℕ) (k : ℕ) → k < configured → getD (ticked samples unit) k 0 ≡ getD unit k 0
 kept-by-tick samples unit k h = Tick.words-kept samples unit k (before (can-be-written k h))
 
-sound-after-tick : (unit : List ℕ) (samples : List ℤ) → Sound unit → Sound (happens (tick samples) unit)
+pub sound-after-tick : (unit : List ℕ) (samples : List ℤ) → Sound unit → Sound (happens (tick samples) unit)
 unfolding happens
 sound-after-tick unit samples h =
     record {
@@ -145,7 +145,7 @@ loaded-valid image unit b v Good g =
     (valid-in image b g)
 loaded-valid image unit b v (Refused why) g = v
 
-sound-after-load : (unit image : List ℕ) → Bytes image → Sound unit → Sound (happens (load image) unit)
+pub sound-after-load : (unit image : List ℕ) → Bytes image → Sound unit → Sound (happens (load image) unit)
 unfolding happens flags-at runs-at signals-at entry
 sound-after-load unit image b h =
     let kept = kept-by-load image unit (omega (arith, h .size, sizes)) (reading image) in

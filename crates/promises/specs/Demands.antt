@@ -2,6 +2,7 @@
 -- Assumes nothing.
 use Rattle.numbers.specs.Bound.{Fits-32-bits}
 use Rattle.dictionary.specs.OneEach.{Names-apart, Slot-named, Slots-apart}
+use Rattle.output.specs.Lasting.{Lasts, Moves-on, On-time, At-once}
 use Rattle.table.specs.Curves.{Never-dips, Stays-between}
 use Rattle.promises.specs.Bench.{On-the-bench}
 use Rattle.promises.specs.Curves.{Tables-never-dip, Tables-stay-between}
@@ -9,6 +10,7 @@ use Rattle.promises.specs.ByWay.{There-and-back, By-way, Cost-of-the-way
 use Rattle.promises.specs.FrameRefusals.{Frames-meet-theirs, Codes-as-listed}
 use Rattle.promises.specs.Images.{Saved-reads-back, Same-bytes-again, Accepts-exactly, One-configuration-each, Refusals-write-nothing, One-outcome, Looked-up-as-it-stands}
 use Rattle.promises.specs.ImageRefusals.{Images-meet-theirs, One-to-seven, Told-to-C, Same-for-C, One-for-C, Number-tells-which}
+use Rattle.promises.specs.Ramps.{Every-ramp-lasts, Every-ramp-moves-on, Every-ramp-on-time, Every-ramp-0-at-once, Starts-again}
 use Rattle.promises.specs.Restoring.{Always-fits, Count-is-difference, Equal-images, Each-accepted, Arrives, Shortest, Cut-anywhere, Taken-up-again, Turned-away-exactly, Own-image, Refused-lists-write-nothing, One-list}
 use Rattle.promises.specs.Running.{Only-the-fold, Always-sound}
 use Rattle.promises.specs.Ticking.{No-nan, Table-sentence, Every-tick}
@@ -136,6 +138,21 @@ pub record Demand-3 : Type 0 where
 
 -- What document 02 asks for and is no part of the three demands, request by request.
 pub record Asked-for : Type 0 where
+  -- (i) "While a command rises toward a target, a moving one too, its movement after k ticks must be k x (FV2 - FV1) / ramp rounded down, stopped at the
+  -- target; falling likewise": of the ramp alone, and of every output of a unit that runs
+  pub lasts : Lasts
+  pub every-ramp-lasts : Every-ramp-lasts
+  -- "a changed target alone doesn't" start the count again, "or a lever that is always moving would hold a slow output still"
+  pub moves-on : Moves-on
+  pub every-ramp-moves-on : Every-ramp-moves-on
+  -- "Ramps that last as long as they say": from one end to the other in so many ticks, and not one less
+  pub on-time : On-time
+  pub every-ramp-on-time : Every-ramp-on-time
+  -- "Ramp 0 still goes at once."
+  pub at-once : At-once
+  pub every-ramp-0-at-once : Every-ramp-0-at-once
+  -- "Standing at the target after the last tick, .. or a tick under rules 1 to 6, starts the count again"
+  pub starts-again : Starts-again
   -- (iii) "The largest product is 65,535 x 65,535 = 4,294,836,225, and half the divisor still fits on top in 32 bits unsigned."
   pub fits-32-bits : Fits-32-bits
   -- (xii) "For any table whose used Y values don't fall from point to point, a larger x never gives a smaller output, for lines and jumps and equal X alike":

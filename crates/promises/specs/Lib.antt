@@ -6,6 +6,7 @@ pub mod Demands
 pub mod FrameRefusals
 pub mod ImageRefusals
 pub mod Images
+pub mod Ramps
 pub mod Restoring
 pub mod Running
 pub mod Serving
