@@ -340,34 +340,47 @@ static int is_on(struct signal v, int32_t response)
 
 static int32_t at_fault(const struct plain *s, int k) { return s->fault_mode[k] ? s->fault_fv[k] : s->command[k]; }
 
-static int32_t ramped(const struct plain *s, int k, int32_t control)
+/* A command that a rule of 1 to 6 names, or the target that is reached: no count is under way. */
+static int32_t named(struct plain *s, int k, int32_t command)
 {
+    s->ramp[k].count = 0;
+    return command;
+}
+
+/* Where k ticks lead from the start of the count, stopped at the target. What the count began with is kept until it starts again. */
+static int32_t ramped(struct plain *s, int k, int32_t control)
+{
+    struct ramp *r = &s->ramp[k];
     int32_t fv1 = s->out_fv1[k], fv2 = s->out_fv2[k], pv1 = s->out_pv1[k], pv2 = s->out_pv2[k];
     int32_t target = line(limit(control, pv1, pv2), pv1, fv1, pv2, fv2);
     int32_t last = limit(s->command[k], fv1, fv2);
-    int32_t ramp = target > last ? s->ramp_up[k] : s->ramp_down[k], step;
-    if (ramp == 0)
-        return target;
-    step = (fv2 - fv1 + ramp - 1) / ramp;
-    return limit(target, last - step, last + step);
+    int32_t rising = target > last, ramp = rising ? s->ramp_up[k] : s->ramp_down[k], way;
+    if (ramp == 0 || target == last)
+        return named(s, k, target);
+    if (r->count == 0 || r->rising != rising || r->ramp != ramp || r->fv1 != fv1 || r->fv2 != fv2)
+        *r = (struct ramp){0, last, rising, ramp, fv1, fv2};
+    r->count++;
+    way = (uint32_t)r->count * (uint32_t)(fv2 - fv1) / (uint32_t)ramp;
+    way = rising ? r->start + way : r->start - way;
+    return (rising ? way < target : way > target) ? way : named(s, k, target);
 }
 
-static int32_t commanded(const struct plain *s, int k)
+static int32_t commanded(struct plain *s, int k)
 {
     struct signal v = signal_of(s, s->enable_source[k], s->enable_number[k]);
     if (v.kind == FAULT)
-        return at_fault(s, k);
+        return named(s, k, at_fault(s, k));
     if (v.kind != ABSENT && !is_on(v, s->enable_response[k]))
-        return 0;
+        return named(s, k, 0);
     v = signal_of(s, s->override_source[k], s->override_number[k]);
     if (v.kind == FAULT)
-        return at_fault(s, k);
+        return named(s, k, at_fault(s, k));
     if (v.kind != ABSENT && is_on(v, s->override_response[k]))
-        return s->override_fv[k];
+        return named(s, k, s->override_fv[k]);
     v = signal_of(s, s->control_source[k], s->control_number[k]);
     if (v.kind == FAULT)
-        return at_fault(s, k);
-    return v.kind == ABSENT ? 0 : ramped(s, k, integer16(v));
+        return named(s, k, at_fault(s, k));
+    return v.kind == ABSENT ? named(s, k, 0) : ramped(s, k, integer16(v));
 }
 
 void plain_tick(struct plain *s, const int16_t *samples)

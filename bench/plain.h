@@ -33,6 +33,11 @@ struct math {
     int32_t source[4], number[4], digits[4], from[4], to[4], gain[4], operator[3];
 };
 
+/* An output's ramp: the ticks counted, 0 for none, and what the count began with. */
+struct ramp {
+    int32_t count, start, rising, ramp, fv1, fv2;
+};
+
 /* Every name of the dictionary is a word of its own, a whole number or a REAL32; the rows in plain.c say which. */
 struct plain {
     int32_t error_register;
@@ -54,6 +59,7 @@ struct plain {
     /* What ticks remember and nobody can read. */
     struct signal input_signal[4], math_signal[4], table_signal[6], logic_signal[2];
     int32_t run[4], flagged[4];
+    struct ramp ramp[4];
 };
 
 void plain_start(struct plain *s);
