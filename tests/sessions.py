@@ -589,21 +589,25 @@ class Unit:
         """(i): an output on its ramp, with all that may start its count again, or must not, between the ticks."""
         rng, n = self.rng, self.rng.randint(1, 4)
         ec, fv2 = rng.randint(5, 12), rng.choice((1, 7, 100, 1500, 2500))
-        for index, value in ((0x2340, 1), (0x2341, ec), (0x2350, 0), (0x2360, 0), (0x6340, 0)):
-            yield self.set(index, n, value)
+        wiring = [self.names.entry(index, n) for index in (0x2340, 0x2341, 0x2350, 0x2360, 0x6340)]
+        before = [entry.value for entry in wiring]
+        for entry, value in zip(wiring, (1, ec, 0, 0, 0)):
+            yield write_line(entry, value)
         yield from self.move_pair(0x7321, 0x7323, n, lambda: rng.choice((0, fv2, rng.randint(0, fv2))))
         yield from self.move((self.names.entry(0x7320, n), self.names.entry(0x7322, n)), (0, 1000))
         for index in (0x2330, 0x2331):
             yield self.set(index, n, rng.choice((1, 2, 3, 7, 13, 40, 333, 1000, 60000)))
         lever = rng.randint(0, 1000)
         yield self.set(0x2500, ec, lever)
-        for _ in range(rng.choice((8, 20, 40))):
+        for _ in range(rng.choice((8, 20))):
             yield tick_line(self.calm_samples())
             if self.chance(40):  # a lever by random walk
                 lever = fit16(lever + rng.choice((-900, -200, -30, -1, 1, 30, 200, 900)))
                 yield self.set(0x2500, ec, lever)
             elif self.chance(25):
                 yield from self.ramp_touched(n)
+        for entry, value in zip(wiring, before):
+            yield write_line(entry, value)
 
     def ramp_touched(self, n):
         """What a ramp's count hangs on, written otherwise, as it is, or there and back; or one tick under another rule."""
@@ -772,7 +776,6 @@ class Unit:
         (6, logic_settings),
         (2, close_comparison),
         (8, output_settings),
-        (4, ramp_under_way),
         (8, switches),
         (2, written_without_a_tick),
         (2, switched_off_under_a_reader),
@@ -1044,6 +1047,18 @@ def ramp_session():
     return answered(unit.printer, Ramped(unit).whole())
 
 
+def lever_session(seed, count=1000):
+    """Outputs on their ramps by chance."""
+    unit = Unit(random.Random("levers %s" % seed))
+
+    def lines():
+        while True:
+            yield from unit.ramp_under_way()
+
+    for _, pair in zip(range(count), answered(unit.printer, lines())):
+        yield pair
+
+
 def long_ramps(unit):
     """Ramps beyond 15 and 16 bits of ticks and of current: the fitter's 10,000 ms, 32,768, 50,000 and 60,000 ms, up and down."""
     for n, ramp in ((1, 10000), (2, 32768), (3, 50000), (4, 60000)):
@@ -1089,9 +1104,9 @@ def long_session():
 
 
 def plan(seed, lines):
-    """(title, session) by turns: the ramps and the walk, then random sessions, so many lines in all."""
+    """(title, session) by turns: the ramps, levers by chance and the walk, then random sessions, so many lines in all."""
     left, k = lines, 0
-    for title, session in (("ramps", ramp_session()), ("walk", walk_session())):
+    for title, session in (("ramps", ramp_session()), ("levers %s" % seed, lever_session(seed)), ("walk", walk_session())):
         fixed = list(session)[:left]
         yield title, fixed
         left -= len(fixed)

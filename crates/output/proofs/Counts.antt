@@ -4,7 +4,7 @@ use Prim.Native.Nat.{ℕ, _+_, _<_, _≤_}
 use mathlib.Core.Bool.{Bool, true, false, not, _&&_}
 use mathlib.Core.Path.{_≡_, refl, sym, ap, _∙_}
 use native.Mathlib.Omega.{arith}
-use borrow.Author.Tests.{eq-eqb, ne-eqb, lt-ltb, eqb-true, eqb-false, ltb-true}
+use borrow.Author.Tests.{eq-eqb, ne-eqb, lt-ltb, eqb-true, ltb-true}
 use lib.Dec.{eqb, ltb}
 use lib.IntN.{ℤ}
 use lib.Signed.{≤ℤ-refl}

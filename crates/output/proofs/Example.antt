@@ -1,7 +1,7 @@
 -- "So 1500 over 1000 ms gives 1, 3, 4 and reaches 1500 at tick 1000; the bench example becomes 1": output at rest, target 1500.
 -- Assumes nothing.
 use Prim.Native.Nat.{ℕ}
-use mathlib.Core.List.{List, [], _∷_}
+use mathlib.Core.List.{[], _∷_}
 use mathlib.Core.Path.{_≡_, refl}
 use lib.IntN.{ℤ, pos}
 use Rattle.numbers.specs.Choice.{first}

@@ -19,7 +19,7 @@ use Rattle.numbers.proofs.Orders.{lt-is-below, le-is-not-below}
 use Rattle.numbers.proofs.OrderLaws.{below-le, ≤ℤ-trans, up, down}
 use Rattle.output.specs.Commanded.{Within}
 use Rattle.output.specs.Lasting.{along, short, Course, after, until, Keeps, Ahead, Starts, Goes, Lasts, near, far, Due, again, Moves-on, On-time, At-once}
-use Rattle.output.specs.Output.{span, way, higher, lower, rise, fall, reached, equal, goesOn, counted, begun, rests, advanced, moved, target, inUse, ramped, byRule}
+use Rattle.output.specs.Output.{span, way, higher, lower, rise, fall, reached, equal, goesOn, counted, begun, rests, advanced, moved, target, ramped, byRule}
 use Rattle.output.specs.declared.Motion.{Motion}
 use Rattle.output.specs.declared.Settings.{Settings}
 use Rattle.output.proofs.Counts.{clash, refused, equal-self, equal-same, On, goes, is-on}

@@ -27,7 +27,7 @@ use Rattle.dictionary.specs.Unit.{ramps-at, ramp-count-at, ramp-start-at, ramp-
 use Rattle.unit.specs.Entry as entry
 use Rattle.unit.proofs.Slots.{has, array}
 use Rattle.output.specs.Commanded.{Within}
-use Rattle.output.specs.Output.{faultOf, counted, begun, rests, advanced, moved, inUse, ramped, byRule, driven}
+use Rattle.output.specs.Output.{faultOf, counted, rests, advanced, moved, inUse, ramped, byRule, driven}
 use Rattle.output.specs.Outputs.{motion, noted, remember}
 use Rattle.output.specs.declared.Motion.{Motion}
 use Rattle.output.specs.declared.Settings.{Settings}

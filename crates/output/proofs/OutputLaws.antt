@@ -1,11 +1,10 @@
 -- Laws of the output: rules 1 to 6 give the value they name, and under rule 7 the command stays between the two configured limits.
 -- Assumes nothing.
-use Prim.Native.Nat.{ℕ, _*_, _/_, _<_, _≤_}
-use mathlib.Core.Bool.{Bool, true, false}
+use Prim.Native.Nat.{ℕ, _*_, _<_, _≤_}
+use mathlib.Core.Bool.{Bool}
 use mathlib.Core.Path.{_≡_, ap}
 use native.Mathlib.Nat.{div-le-of-le-mul, mul-le-mul-right, mul-comm}
 use native.Mathlib.Omega.{arith}
-use lib.Dec.{eqb}
 use lib.IntN.{ℤ, pos, _+ℤ_, _-ℤ_}
 use lib.Signed.{_≤ℤ_, _<ℤ_}
 use Rattle.numbers.specs.Choice.{first}
@@ -17,7 +16,7 @@ use Rattle.numbers.proofs.whole_line.LineLaws.{from-first, to-second}
 use Rattle.numbers.proofs.Choices.{chosen}
 use Rattle.output.specs.Output.{rule, ruleOf}
 use Rattle.output.specs.Commanded.{Within, Some-rule, Rules-1-to-6, Rule-7}
-use Rattle.output.specs.Output.{span, way, higher, lower, rise, fall, reached, equal, advanced, moved, target, inUse, ramped, rests, byRule, driven}
+use Rattle.output.specs.Output.{way, higher, lower, rise, fall, reached, advanced, moved, target, ramped, rests, byRule, driven}
 use Rattle.signals.specs.Signal.{whole}
 use Rattle.signals.specs.declared.signal.Signal.{Signal}
 use Rattle.output.specs.declared.Motion.{Motion}

@@ -1,16 +1,15 @@
 -- The ramps of a unit that runs.
 -- Assumes nothing.
-use Prim.Native.Nat.{ℕ, suc, _+_, _<_, _≤_}
+use Prim.Native.Nat.{ℕ, suc, _+_, _<_}
 use mathlib.Core.List.{List}
 use mathlib.Core.Path.{_≡_, refl, sym, ap, _∙_, subst}
 use lib.IntN.{ℤ}
-use lib.ListN.{getD}
 use lib.Signed.{_<ℤ_}
 use native.Mathlib.Omega.{arith}
 use Rattle.numbers.specs.Choice.{first}
 use Rattle.numbers.proofs.Orders.{below-is-lt}
 use Rattle.dictionary.proofs.Tabulate.{tabulate, agree}
-use Rattle.dictionary.specs.Names.{slot-of, configured, words}
+use Rattle.dictionary.specs.Names.{slot-of, words}
 use Rattle.dictionary.specs.Unit.{signals-at, runs-at, flags-at, ramps-at, ramp-count-at, unit-size}
 use Rattle.dictionary.proofs.naming.NameLaws.{counted}
 use Rattle.roles.specs.Values.{starts, at-start}
@@ -28,7 +27,7 @@ use Rattle.output.specs.declared.Motion.{Motion}
 use Rattle.output.proofs.Lasting.{lasts, moves-on, end-ahead, due, at-once, stands-still, named-still}
 use Rattle.output.proofs.MotionLaws.{ramp-word}
 use Rattle.unit.specs.Entry.{entry, whole}
-use Rattle.controller.specs.Commands.{Commanded, control, enable, override, ruleFor}
+use Rattle.controller.specs.Commands.{Commanded, control, ruleFor}
 use Rattle.controller.specs.Tick.{ticked}
 use Rattle.controller.proofs.Commands.{same-motion, motion-unwritten}
 use Rattle.controller.proofs.Kept.{Publishes, stands, register-first}

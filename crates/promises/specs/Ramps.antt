@@ -1,6 +1,6 @@
 -- What is promised of the ramps of a unit that runs: document 02 (i), "Ramps that last as long as they say". Outputs are counted from i = 0.
 -- Assumes nothing.
-use Prim.Native.Nat.{ℕ, suc, _+_, _<_, _≤_}
+use Prim.Native.Nat.{ℕ, suc, _+_, _<_}
 use mathlib.Core.List.{List}
 use mathlib.Core.Path.{_≡_}
 use lib.IntN.{ℤ}
@@ -15,7 +15,7 @@ use Rattle.output.specs.Outputs.{settings, motion}
 use Rattle.unit.specs.Entry.{whole}
 use Rattle.controller.specs.Commands.{control, ruleFor}
 use Rattle.controller.specs.Tick.{ticked}
-use Rattle.promises.specs.Running.{Event, frame, load, happens, Sound}
+use Rattle.promises.specs.Running.{frame, load, happens, Sound}
 
 -- the target of output n, by the unit after a tick
 unfoldable pub aim : List ℕ → ℕ → ℤ

@@ -1,6 +1,6 @@
 -- The command as the calls give it, and whether it arrived.
 -- Assumes nothing.
-use mathlib.Core.Bool.{Bool}
+
 use mathlib.Core.Path.{_≡_, sym, ap, _∙_}
 use mir.Syntax.{w16}
 use mir.Val.{toZ, ofZ, SFits}

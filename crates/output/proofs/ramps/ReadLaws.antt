@@ -1,18 +1,17 @@
 -- What an output remembers, word by word: the words of output k + 1 are the k-th of their kind.
 -- Assumes nothing.
 use Prim.Native.Nat.{ℕ, _+_, _-_, _%_}
-use mathlib.Core.Bool.{Bool, true, false, not, _&&_}
+use mathlib.Core.Bool.{Bool, not}
 use mathlib.Core.List.{List}
-use mathlib.Core.Path.{_≡_, refl, ap}
+use mathlib.Core.Path.{_≡_}
 use native.Mathlib.Omega.{arith}
 use borrow.Author.Tests.{eq-eqb, ne-eqb}
-use lib.Dec.{eqb, ltb}
-use lib.IntN.{ℤ}
+use lib.Dec.{eqb}
 use lib.ListN.{getD}
 use Rattle.numbers.specs.Choice.{first}
 use Rattle.numbers.specs.Signed.{signed16}
 use Rattle.dictionary.specs.Unit.{ramp-count-at, ramp-start-at, ramp-rising-at, ramp-fv1-at, ramp-fv2-at, ramp-used-at}
-use Rattle.output.specs.Output.{unchanged, goesOn, counted}
+use Rattle.output.specs.Output.{goesOn, counted}
 use Rattle.output.specs.Outputs.{motion}
 use Rattle.output.specs.declared.Motion.{Motion}
 use Rattle.output.specs.declared.Settings.{Settings}

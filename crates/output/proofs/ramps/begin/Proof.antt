@@ -5,7 +5,7 @@ use borrow.Author.Tests.{ne-eqb}
 use mir.Facts.{toZ-ofZ}
 use Rattle.numbers.specs.Choice.{first}
 use Rattle.numbers.proofs.ExactLaws.{back}
-use Rattle.dictionary.specs.Unit.{ramp-count-at, ramp-start-at}
+use Rattle.dictionary.specs.Unit.{ramp-start-at}
 use Rattle.output.specs.Output.{begun}
 use Rattle.output.proofs.ramps.ReadLaws.{start-is}
 use borrow.Author.Needs.{needs}

@@ -1,8 +1,7 @@
 -- Each value against its own, as the words have them.
 -- Assumes nothing.
 use Prim.Native.Nat.{_<_}
-use mathlib.Core.Bool.{false}
-use mathlib.Core.Path.{_≡_, refl, sym, _∙_}
+use mathlib.Core.Path.{refl}
 use native.Mathlib.Omega.{arith}
 use borrow.Author.Tests.{eq-eqb, ne-eqb}
 use Rattle.numbers.proofs.ExactLaws.{back}

@@ -1,10 +1,9 @@
 -- The limited last command, the target, the direction and the count, read through their calls.
 -- Assumes nothing.
 use Prim.Native.Nat.{_+_, _<_}
-use mathlib.Core.Bool.{Bool}
 use mathlib.Core.Path.{_≡_, refl, sym, ap, _∙_}
 use native.Mathlib.Omega.{arith}
-use borrow.Author.Tests.{eq-eqb, ne-eqb}
+use borrow.Author.Tests.{ne-eqb}
 use mir.Syntax.{w16}
 use mir.Val.{toZ, ofZ, SFits}
 use mir.Facts.{toZ-ofZ}
@@ -15,7 +14,7 @@ use Rattle.numbers.proofs.ExactLaws.{back}
 use Rattle.unit.proofs.Slots.{has}
 use Rattle.unit.proofs.WordLaws.{whole-is}
 use Rattle.unit.specs.Entry.{whole}
-use Rattle.output.specs.Output.{equal, rests, moved, target, inUse, ramped}
+use Rattle.output.specs.Output.{equal, rests, moved, target, ramped}
 use Rattle.output.specs.Outputs.{settings, motion}
 use Rattle.output.proofs.ramps.ReadLaws.{count-is, went-on}
 use borrow.Author.Needs.{needs}
