@@ -8,6 +8,7 @@ pub mod ImageRefusals
 pub mod Images
 pub mod Restoring
 pub mod Running
+pub mod SameDigits
 pub mod Serving
 pub mod Ticking
 pub mod Trap
