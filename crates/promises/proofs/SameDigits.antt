@@ -1,7 +1,7 @@
 -- The promises of document 02 (vii): both products are as thousandths are, and a logic block's signal and 4010h change together.
 -- Assumes nothing.
 use Prim.Native.Nat.{ℕ, zero, suc, _+_, _-_, _*_, _<_, _≤_}
-use mathlib.Core.Bool.{Bool, true, false, _&&_}
+use mathlib.Core.Bool.{Bool, true, false}
 use mathlib.Core.List.{List, [], _∷_}
 use mathlib.Core.Path.{_≡_, refl, sym, ap, _∙_}
 use native.Mathlib.Omega.{arith}
@@ -12,7 +12,6 @@ use lib.IntN.{ℤ, pos, negsuc, negℤ, _*ℤ_, negsuc-*ℤ-pos}
 use Rattle.numbers.specs.Choice.{first}
 use Rattle.numbers.specs.Order.{below}
 use Rattle.signals.specs.Signal.{whole}
-use Rattle.signals.specs.declared.signal.Signal.{Signal}
 use Rattle.signals.specs.declared.signal.Signal.the-variants.{Whole, Real, Error, Absent}
 use Rattle.signals.specs.Words.{ofWords}
 use Rattle.dictionary.specs.Names.{configured, writable, words, slot-of}
@@ -34,7 +33,6 @@ use Rattle.controller.proofs.Shown.{logic-selects}
 use Rattle.controller.proofs.TickLaws as Tick
 use Rattle.logic.specs.Digits.{tens, orders, inSameDigits}
 use Rattle.logic.specs.Logic.{judged}
-use Rattle.logic.specs.declared.Verdict.the-variants.{True, False}
 use Rattle.promises.specs.Running.{Event, frame, tick, load, happens, run}
 use Rattle.promises.specs.SameDigits.{thousandths, Same-digits, Reals-as-before, Given-by-its-table}
 use Rattle.promises.proofs.Accepted as Accepted

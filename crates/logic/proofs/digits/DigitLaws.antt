@@ -1,15 +1,15 @@
 -- Laws of the digits: names in range, products that fit 32 bits, and two numbers that are the same.
 -- Assumes nothing.
-use Prim.Native.Nat.{ℕ, zero, suc, _+_, _*_, _<_, _≤_}
+use Prim.Native.Nat.{ℕ, zero, suc, _*_, _<_, _≤_}
 use mathlib.Core.Bool.{Bool, true, false, not, _&&_, _||_}
 use mathlib.Core.List.{List, [], _∷_, map}
 use mathlib.Core.Path.{_≡_, refl, sym, ap, _∙_}
 use native.Mathlib.Omega.{arith}
-use borrow.Author.Tests.{eqb-true, eqb-false, ltb-true, ltb-false, ne-eqb, eq-eqb, le-ltb, lt-ltb}
-use lib.Dec.{eqb, ltb, T}
+use borrow.Author.Tests.{eqb-false, ltb-false, ne-eqb, eq-eqb, le-ltb}
+use lib.Dec.{eqb, ltb}
 use lib.IntN.{ℤ, pos, negsuc, negℤ, _*ℤ_, negsuc-*ℤ-pos}
 use lib.Signed.{mag, ltZ, leZ}
-use mir.Syntax.{Width, w16, w32}
+use mir.Syntax.{w16, w32}
 use mir.Val.{SFits, toZ, ofZ}
 use mir.Facts.{toZ-ofZ}
 use Rattle.numbers.specs.Choice.{first}
