@@ -10,12 +10,14 @@ blocks have something to read. Every session starts on a fresh unit.
     python3 sessions.py --coverage SEED LINES  what the sessions of that plan reach, counted
 """
 
+import pathlib
 import random
 import struct
 import sys
 
 import model
 
+HERE = pathlib.Path(__file__).parent
 LINES_OF_ONE_SESSION = 2000
 
 # --------------------------------------------------------------------------- Lines
@@ -929,7 +931,13 @@ def walk_default_delay():
     yield frame_line(0x40, 0x7130, 2)
 
 
+def walk_digits():
+    """(vii): the example session, so that it runs wherever the walk does. The walk over the names puts back what it sets."""
+    return (HERE / "examples" / "digits.stdin").read_bytes().splitlines()
+
+
 def walk(unit):
+    yield from walk_digits()
     yield from walk_names(unit.names)
     yield from walk_refusals()
     yield from walk_chains(unit.names)
