@@ -270,6 +270,32 @@ static void table(struct plain *s, int z)
 
 enum verdict { FALSE, TRUE, ERROR, NA };
 
+/* The digits of a source that gives whole numbers; a logic block has those of the table that gave its signal. */
+static int32_t digits_of(const struct plain *s, int32_t source, int32_t number)
+{
+    switch (source) {
+    case 1: return s->ec_digits[number - 1];
+    case 2: return s->input_digits[number - 1];
+    case 4: number = s->selected[number - 1]; /* falls through */
+    default: return s->table[number - 1].y_digits;
+    }
+}
+
+/* Document 02 (vii): two whole numbers are compared as the decimal numbers they stand for. */
+static enum verdict in_same_digits(const struct plain *s, const struct condition *c, int32_t v, int32_t w)
+{
+    static const int32_t tens[4] = {1, 10, 100, 1000};
+    int32_t a = v * tens[digits_of(s, c->source2, c->number2)], b = w * tens[digits_of(s, c->source1, c->number1)];
+    switch (c->comparison) {
+    case 0: return a == b;
+    case 1: return a != b;
+    case 2: return a > b;
+    case 3: return a >= b;
+    case 4: return a < b;
+    default: return a <= b;
+    }
+}
+
 static enum verdict judged(const struct plain *s, const struct condition *c)
 {
     struct signal one = signal_of(s, c->source1, c->number1), two;
@@ -281,6 +307,8 @@ static enum verdict judged(const struct plain *s, const struct condition *c)
         return NA;
     if (one.kind == FAULT || two.kind == FAULT)
         return ERROR;
+    if (one.kind == WHOLE && two.kind == WHOLE)
+        return in_same_digits(s, c, one.whole, two.whole);
     a = real32(one);
     b = real32(two);
     switch (c->comparison) {

@@ -2,7 +2,7 @@
 
     python3 eds/make.py > eds/valve-controller.eds
 
-It knows document 01 and document 000's words for the objects, and nothing of the program.
+It knows document 01, request (vii) of document 02 for a comment, and document 000's words for the objects, and nothing of the program.
 """
 
 import re
@@ -168,6 +168,8 @@ Node-ID and COB-IDs belong to whoever moves the frames.
 The limits are an entry's own range. A write must also keep these chains, or it is refused as too high or too low:
 30z5h:1 <= :2 <= .. <= :11 for z = 1 to 6, and, for the same sub-index, 7148h <= 7120h < 7122h <= 7149h, 2520h < 2522h,
 4521h < 4523h, 4y20h < 4y22h for y = 6 to 9, 7320h < 7322h, 7321h < 7323h.
+Decimal digits say what a whole number stands for: 125 with one digit is 12.5. A condition of a logic block (4x11h to 4x33h) compares two whole
+numbers by the digits of their sources, 2502h, 6132h or 30z3h. All other digits, and 2520h and 2522h, are stored and used by no block.
 A REAL32 takes every finite value: its limits are the largest finite ones, in decimals, as its default is.
 """
 

@@ -294,6 +294,27 @@ def see_verdict(verdict, condition):
     arguments = glance(condition.argument1), glance(condition.argument2)
     if model.ABSENT in arguments and model.ERROR in arguments:
         hit("logic argument missing, the other in error")
+    if verdict in (model.TRUE, model.FALSE) and {kind_of(argument) for argument in arguments} == {"whole"}:
+        see_digits(verdict, condition, arguments)
+
+
+def see_digits(verdict, condition, numbers):
+    """(vii)"""
+    pairs = condition.argument1, condition.argument2
+    digits = [pair.blocks[pair.source.value, pair.number.value].digits.value for pair in pairs]
+    if digits[0] != digits[1]:
+        hit("digits differ, comparison", condition.comparison.value, verdict)
+        exact = [number * 10 ** (3 - count) for number, count in zip(numbers, digits)]
+        if exact[0] == exact[1] != 0:
+            hit("digits differ, the same number" + (" below 0" if exact[0] < 0 else ""))
+        if (exact[0] < exact[1]) != (numbers[0] < numbers[1]):
+            hit("digits turn the comparison round")
+        if sorted(digits) == [0, 3]:
+            for end in (-32768, 32767):
+                if end in numbers:
+                    hit("digits 0 and 3 at", end)
+        for pair in pairs:
+            hit("digits of", SOURCE_NAMES[pair.source.value], "against other digits")
 
 
 def see_holds(result, number, verdicts):
@@ -513,6 +534,11 @@ def expected_of_logic():
     for comparison in range(6):
         yield "logic comparison %d True" % comparison
         yield "logic comparison %d False" % comparison
+    for verdict in (model.TRUE, model.FALSE):
+        yield from ("digits differ, comparison %d %s" % (comparison, verdict) for comparison in range(6))
+    yield from ("digits differ, the same number", "digits differ, the same number below 0", "digits turn the comparison round")
+    yield from ("digits 0 and 3 at -32768", "digits 0 and 3 at 32767")
+    yield from ("digits of %s against other digits" % name for name in SOURCE_NAMES[1:5])
     yield "logic operator 0 holds"
     for number in range(1, 5):
         for what in ("holds", "fails", "with Error", "with N/A", "all three N/A"):

@@ -20,6 +20,7 @@ import sys
 REQUESTS = (
     "i",
     "ii",
+    "vii",
 )
 
 # --------------------------------------------------------------------------- Numbers
@@ -388,10 +389,10 @@ def answer(dictionary, frame, room=8):
 
 
 class Held:
-    """An EC value or a constant, seen as a signal: always available (OP 25)."""
+    """An EC value or a constant, seen as a signal: always available (OP 25). A constant has no digits."""
 
-    def __init__(self, entry):
-        self.entry = entry
+    def __init__(self, entry, digits=None):
+        self.entry, self.digits = entry, digits
 
     @property
     def signal(self):
@@ -408,9 +409,15 @@ class Pair:
         block = self.blocks.get((self.source.value, self.number.value))
         return ABSENT if block is None else block.signal
 
+    def decimal(self, number):
+        """(vii): "the decimal numbers they stand for", by the digits of the source "as they stand when compared" """
+        digits = self.blocks[self.source.value, self.number.value].digits
+        return fractions.Fraction(number, 10**digits.value)
+
 
 class Input:
     def __init__(self, names, n):
+        self.digits = names.entry(0x6132, n)
         self.sample, self.pv = names.entry(0x7100, n), names.entry(0x7130, n)
         self.fv1, self.pv1 = names.entry(0x7120, n), names.entry(0x7121, n)
         self.fv2, self.pv2 = names.entry(0x7122, n), names.entry(0x7123, n)
@@ -540,6 +547,7 @@ class Table:
         self.response = [None, None] + names.array_of(base + 4)[1:]
         self.x = [None] + names.array_of(base + 5)
         self.y = [None] + names.array_of(base + 6)
+        self.digits = names.entry(base + 3)  # of Y, which is the table's signal
         self.output = names.entry(base + 7)
         self.signal = ABSENT
 
@@ -593,8 +601,12 @@ class Condition:
             return NA
         if a is ERROR or b is ERROR:  # "else with an error argument, Error"
             return FAULT
+        if isinstance(a, int) and isinstance(b, int) and "vii" in REQUESTS:
+            # (vii): "two whole-number arguments are compared as the decimal numbers they stand for, exactly"
+            a, b = self.argument1.decimal(a), self.argument2.decimal(b)
         # "both numbers compared as REAL32 as they stand": Python compares int and float
-        # exactly, and an INTEGER16 is a REAL32 exactly.
+        # exactly, and an INTEGER16 is a REAL32 exactly. (vii): "A REAL32 argument is compared as before", the
+        # other without its digits (OP 123).
         return TRUE if COMPARISONS[self.comparison.value](a, b) else FALSE
 
 
@@ -624,6 +636,11 @@ class Logic:
         ]
         self.tables = tables
         self.signal = ABSENT
+
+    @property
+    def digits(self):
+        """(vii): "those of the table that gave its signal, also where that signal is the last tick's": 4010h names it (OP 124)"""
+        return self.tables[self.selected.value - 1].digits
 
     def step(self):
         letter = self.first_that_holds() if self.enable.value else None
@@ -777,7 +794,7 @@ class Controller:
         self.logic = [Logic(names, blocks, self.tables, x) for x in (1, 2)]
         self.outputs = [Output(names, blocks, n) for n in range(1, 5)]
         self.error_register = names.entry(0x1001)
-        ec = [Held(entry) for entry in names.array_of(0x2500)]
+        ec = [Held(entry, digits) for entry, digits in zip(names.array_of(0x2500), names.array_of(0x2502))]
         constants = [Held(entry) for entry in names.array_of(0x5010)]
         for source, row in (
             (EC, ec),

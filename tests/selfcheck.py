@@ -203,10 +203,13 @@ def check_unanswered():
 
 # --------------------------------------------------------------------------- Requests
 
+DIGITS = [index.to_bytes(2, "little").hex().upper().encode() for index in (0x2502, 0x6132, *range(0x3013, 0x3073, 0x10))]
+
 # The lines that touch a request: only with one of them may a session's answers be others than before it.
 TOUCHES = {
     "i": lambda line: line[4:8] == b"4023",  # 2340h: an output without a control is never under rule 7
     "ii": lambda line: line.startswith(b"S 22"),
+    "vii": lambda line: line.startswith(b"S ") and line[4:8] in DIGITS,
 }
 
 

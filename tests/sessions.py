@@ -12,12 +12,14 @@ blocks have something to read. Every session starts on a fresh unit.
     python3 sessions.py --coverage SEED LINES  what the sessions of that plan reach, counted
 """
 
+import pathlib
 import random
 import struct
 import sys
 
 import model
 
+HERE = pathlib.Path(__file__).parent
 LINES_OF_ONE_SESSION = 2000
 
 # --------------------------------------------------------------------------- Lines
@@ -563,6 +565,77 @@ class Unit:
             yield tick_line(self.calm_samples())
             yield frame_line(0x40, 0x4010, x)
 
+    def digits_entry(self):
+        """(vii): of a source that gives whole numbers."""
+        index, count = self.rng.choice(((0x2502, 4), (0x2502, 12), (0x6132, 4), (0x3003, 6), (0x3003, 6)))
+        number = self.rng.randint(1, count)
+        return self.names.entry(index + 0x10 * number) if index == 0x3003 else self.names.entry(index, number)
+
+    def digits(self):
+        for _ in range(self.rng.randint(1, 4)):
+            yield write_line(self.digits_entry(), self.rng.randint(0, 3))
+            if self.chance(40):  # as they stand when compared
+                yield tick_line(self.calm_samples())
+                yield frame_line(0x40, 0x4010, self.rng.randint(1, 2))
+
+    def alone(self, x, *condition):
+        """A's first condition alone decides; its comparison is written later."""
+        base = 0x4000 + 0x100 * x
+        yield self.set(0x4000, x, 1)
+        for sub, operator in enumerate((2, 4, 4), 1):
+            yield self.set(base + 2, sub, operator)
+        for c in (2, 3):
+            yield self.set(base + 0x10 + c, 1, 0)
+        for index in (0x20, 0x30):
+            yield self.set(base + index + 3, 1, 0)
+        for sub, value in enumerate(condition, 1):
+            yield self.set(base + 0x11, sub, value)
+
+    def same_digits(self):
+        """(vii): a whole number of any source against a received value that stands for the same decimal number, or for one just beside it."""
+        rng, x, second = self.rng, self.rng.randint(1, 2), self.rng.randint(5, 12)
+        source, first = rng.choice(((1, rng.randint(1, 4)), (2, rng.randint(1, 4)), (3, rng.randint(1, 6))))
+        digits = {1: (0x2502, first), 2: (0x6132, first), 3: (0x3003 + 0x10 * first, 0)}[source]
+        shown = self.names.entry(*{1: (0x2500, first), 2: (0x7130, first), 3: (0x3007 + 0x10 * first, 0)}[source])
+        yield from self.alone(x, *rng.choice(((source, first, 1, second), (1, second, source, first))))
+        for comparison in rng.sample(range(6), 6):
+            d, e = rng.randint(0, 3), rng.randint(0, 3)
+            if source == 1:
+                yield write_line(shown, rng.choice((rng.randint(-32, 32) * 10**d, self.some16(), -32768, 32767)))
+            same = shown.value * 10**e // 10**d
+            for index, sub, value in ((*digits, d), (0x2502, second, e), (0x2500, second, fit16(same + rng.choice((0, 0, 1, -1))))):
+                yield self.set(index, sub, value)
+            yield self.set(0x4011 + 0x100 * x, 5, comparison)
+            yield tick_line(self.calm_samples())
+            yield frame_line(0x40, 0x4010, x)
+
+    def digits_of_a_selection(self):
+        """(vii): a logic block that is read by the other, or by itself, while its selection, its tables' digits and numbers change."""
+        rng, x, y = self.rng, self.rng.randint(1, 2), self.rng.randint(1, 2)
+        one, other = rng.sample(range(1, 7), 2)
+        for z in (one, other):
+            yield self.set(0x3000 + 0x10 * z, 0, 1)
+            yield self.set(0x3001 + 0x10 * z, 0, 1)
+        if x != y:  # A while EC 3 is above 0, else B
+            yield from self.alone(y, 1, 3, 6, 1, 2)
+            yield self.set(0x4002 + 0x100 * y, 2, 0)
+        for sub, z in ((1, one), (2, other)):
+            yield self.set(0x4001 + 0x100 * y, sub, z)
+        yield from self.alone(x, *rng.choice(((4, y, 1, 2), (1, 2, 4, y))))
+        for _ in range(rng.randint(3, 6)):
+            yield self.set(0x4011 + 0x100 * x, 5, rng.randint(0, 5))
+            yield self.set(0x2500, 3, rng.randint(0, 1))
+            for z in rng.sample((one, other), rng.randint(0, 2)):
+                yield self.set(0x3002 + 0x10 * z + rng.choice((0, 1, 1, 1)), 0, rng.randint(0, 3))
+            if self.chance(30):  # what 4x01h names now is not what it named then
+                yield self.set(0x4001 + 0x100 * y, rng.randint(1, 2), rng.choice((one, other)))
+            shown = self.names.entry(0x4020, y).value
+            yield self.set(0x2500, 2, fit16(rng.choice((shown, 10 * shown, 100 * shown, shown // 10)) + rng.randint(-1, 1)))
+            yield self.set(0x2502, 2, rng.randint(0, 3))
+            yield tick_line(self.calm_samples())
+            for sub in (1, 2):
+                yield frame_line(0x40, 0x4010, sub)
+
     def output_settings(self, n=None):
         rng, n = self.rng, n or self.rng.randint(1, 4)
         if self.chance(80):
@@ -639,6 +712,14 @@ class Unit:
             yield from self.reads()
             yield frame_line(0x40, 0x4530, rng.randint(1, 4))
             yield frame_line(0x40, 0x4010, rng.randint(1, 2))
+        yield from self.ticks()
+
+    def switched_by_minus_zero(self):
+        """-0 is a number equal to 0: off, or on with response 1."""
+        n, constant = self.rng.randint(1, 4), self.rng.randint(3, 15)
+        yield self.set(0x5010, constant, -0.0)
+        for index, value in ((0x2350, 6), (0x2351, constant), (0x2352, self.rng.randint(0, 1))):
+            yield self.set(index, n, value)
         yield from self.ticks()
 
     def switched_off_under_a_reader(self):
@@ -775,10 +856,14 @@ class Unit:
         (5, table_settings),
         (6, logic_settings),
         (2, close_comparison),
+        (3, digits),
+        (3, same_digits),
+        (3, digits_of_a_selection),
         (8, output_settings),
         (8, switches),
         (2, written_without_a_tick),
         (2, switched_off_under_a_reader),
+        (1, switched_by_minus_zero),
         (6, any_write),
         (3, chain_edges),
         (4, untold_writes),
@@ -892,7 +977,13 @@ def walk_default_delay():
     yield frame_line(0x40, 0x7130, 2)
 
 
+def walk_digits():
+    """(vii): the example session, so that it runs wherever the walk does. The walk over the names puts back what it sets."""
+    return (HERE / "examples" / "digits.stdin").read_bytes().splitlines()
+
+
 def walk(unit):
+    yield from walk_digits()
     yield from walk_names(unit.names)
     yield from walk_refusals()
     yield from walk_chains(unit.names)

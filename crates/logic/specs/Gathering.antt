@@ -20,10 +20,11 @@ both operator c =
     (first (eqb operator 3) (ltb c 2)
     (eqb c 2)))
 
-unfoldable pub gathered : ℕ → ℕ → Bool → Verdict → Bool
-gathered operator c so v =
-    first (eqb c 0) (counts operator v)
-    (first (both operator c) (so && counts operator v) (so || counts operator v))
+-- `holds` tells whether the next one counts
+unfoldable pub gathered : ℕ → ℕ → Bool → Bool → Bool
+gathered operator c so holds =
+    first (eqb c 0) holds
+    (first (both operator c) (so && holds) (so || holds))
 
 -- under operator 1 once one does not hold, under operator 2 once one does
 unfoldable pub settled : ℕ → Bool → Bool

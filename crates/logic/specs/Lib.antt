@@ -1,3 +1,4 @@
+pub mod Digits
 pub mod Gathering
 pub mod Logic
 pub mod Logics

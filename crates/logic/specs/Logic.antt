@@ -5,9 +5,10 @@ use mathlib.Core.Bool.{Bool, true, false, _&&_, _||_}
 use lib.Dec.{eqb}
 use lib.Ieee.{Float, lt, le, eq, ne}
 use Rattle.numbers.specs.Choice.{first}
-use Rattle.signals.specs.Signal.{isAbsent, asReal}
+use Rattle.signals.specs.Signal.{isAbsent, asReal, whole}
 use Rattle.signals.specs.declared.signal.Signal.{Signal}
 use Rattle.signals.specs.declared.signal.Signal.the-variants as signal
+use Rattle.logic.specs.Digits.{inSameDigits}
 use Rattle.logic.specs.declared.Verdict.{Verdict}
 use Rattle.logic.specs.declared.Verdict.the-variants.{False, True, Error, NotAvailable}
 
@@ -38,6 +39,20 @@ compared comparison signal.Absent right = Error
 unfoldable pub verdict : Signal → Signal → ℕ → Verdict
 verdict left right comparison =
     first (isAbsent left || isAbsent right) NotAvailable (compared comparison (asReal left) (asReal right))
+
+abbrev pub isWhole : Signal → Bool
+isWhole (signal.Whole n) = true
+isWhole (signal.Real x) = false
+isWhole signal.Error = false
+isWhole signal.Absent = false
+
+-- document 02 (vii): "two whole-number arguments are compared as the decimal numbers they stand for .. A REAL32 argument is compared as
+-- before"; d and e are the digits of the two
+unfoldable pub judged : Signal → ℕ → Signal → ℕ → ℕ → Verdict
+judged left d right e comparison =
+    first (isWhole left && isWhole right)
+    (first (inSameDigits comparison (whole left) d (whole right) e) True False)
+    (verdict left right comparison)
 
 -- "Error is false, and N/A is false in 2 to 4"
 abbrev pub isTrue : Verdict → Bool

@@ -9,7 +9,8 @@ use Rattle.numbers.specs.Signed.{pattern16}
 use Rattle.signals.specs.Signal as signals
 use Rattle.signals.specs.declared.signal.Signal.{Signal}
 use Rattle.dictionary.specs.Names.{slot-of}
-use Rattle.logic.specs.Logic.{verdict, holding}
+use Rattle.logic.specs.Digits.{digitsOf}
+use Rattle.logic.specs.Logic.{judged, holding}
 use Rattle.logic.specs.declared.Verdict.{Verdict}
 use Rattle.unit.specs.Entry.{byte, switched, publish}
 use Rattle.unit.specs.Held.{logics, lay}
@@ -23,13 +24,20 @@ of-logic index x = index + 0x100 * x
 abbrev pub of-condition : ℕ → ℕ → ℕ → ℕ
 of-condition x t c = 0x4000 + 0x100 * x + 0x10 * t + c
 
--- "condition: source, number, source, number, comparison": its five words follow each other
+-- a condition's argument, a source and a number that follow each other: its signal, and the digits of its source
+unfoldable pub argumentAt : List ℕ → ℕ → Signal
+argumentAt unit slot = sourced unit (getD unit slot 0 % 0x100) (getD unit (slot + 1) 0 % 0x100)
+
+unfoldable pub digitsAt : List ℕ → ℕ → ℕ
+digitsAt unit slot = digitsOf unit (getD unit slot 0 % 0x100) (getD unit (slot + 1) 0 % 0x100)
+
+-- "condition: source, number, source, number, comparison": its five words follow each other; the first argument's signal is given
+unfoldable pub judgedAt : List ℕ → ℕ → Signal → Verdict
+judgedAt unit slot left =
+    judged left (digitsAt unit slot) (argumentAt unit (slot + 2)) (digitsAt unit (slot + 2)) (getD unit (slot + 4) 0 % 0x100)
+
 unfoldable pub conditionAt : List ℕ → ℕ → Verdict
-conditionAt unit slot =
-    verdict
-    (sourced unit (getD unit slot 0 % 0x100) (getD unit (slot + 1) 0 % 0x100))
-    (sourced unit (getD unit (slot + 2) 0 % 0x100) (getD unit (slot + 3) 0 % 0x100))
-    (getD unit (slot + 4) 0 % 0x100)
+conditionAt unit slot = judgedAt unit slot (argumentAt unit slot)
 
 unfoldable pub conditionOf : List ℕ → ℕ → Verdict
 conditionOf unit index = conditionAt unit (slot-of index 1)

@@ -21,7 +21,7 @@ fn is_both(operator: u8, c: usize) -> bool
 }
 
 // What is not available counts where all three have to hold.
-fn does_count(operator: u8, v: Verdict) -> bool
+pub fn does_count(operator: u8, v: Verdict) -> bool
     ensures { λ r. ⌜ r ≡ counts operator v ⌝ }
 {
     match v {
@@ -33,10 +33,9 @@ fn does_count(operator: u8, v: Verdict) -> bool
 }
 
 // What operators 1 to 4 have gathered with condition c + 1, one after the other.
-pub fn gather(operator: u8, c: usize, so: bool, v: Verdict) -> bool
-    ensures { λ r. ⌜ r ≡ gathered operator c so v ⌝ }
+pub fn gather(operator: u8, c: usize, so: bool, holds: bool) -> bool
+    ensures { λ r. ⌜ r ≡ gathered operator c so holds ⌝ }
 {
-    let holds = does_count(operator, v);
     if c == 0 {
         return holds;
     }

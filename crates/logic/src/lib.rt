@@ -1,4 +1,5 @@
-// A logic block: one condition of its table here, what an operator makes of three in gathering.rt, the two blocks in a tick in turns.rt.
+// A logic block: one condition of its table here and in digits.rt, what an operator makes of three in gathering.rt, the two blocks in a tick in turns.rt.
+mod digits;
 pub mod gathering;
 pub mod turns;
 

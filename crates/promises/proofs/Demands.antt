@@ -14,6 +14,7 @@ use Rattle.promises.proofs.ImageRefusals as ImageRefusals
 use Rattle.promises.proofs.Ramps as Ramps
 use Rattle.promises.proofs.Restoring as Restoring
 use Rattle.promises.proofs.Running as Running
+use Rattle.promises.proofs.SameDigits as SameDigits
 use Rattle.promises.proofs.Ticking as Ticking
 use Rattle.controller.proofs.Off as Off
 use Rattle.promises.proofs.Trap as Trap
@@ -110,6 +111,9 @@ asked-for =
       tables-never-dip = Curves.tables-never-dip;
       stays-between = curves.stays-between;
       tables-stay-between = Curves.tables-stay-between;
+      same-digits = SameDigits.same-digits;
+      reals-as-before = SameDigits.reals-as-before;
+      given-by-its-table = SameDigits.given-by-its-table;
       empty-to-itself = Restoring.equal-images;
       there-and-back = ByWay.there-and-back;
       by-way = ByWay.by-way;

@@ -17,6 +17,7 @@ pub mod ReadBack
 pub mod RecordFrames
 pub mod Restoring
 pub mod Running
+pub mod SameDigits
 pub mod Serving
 pub mod Slots
 pub mod Spent

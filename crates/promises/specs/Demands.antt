@@ -13,6 +13,7 @@ use Rattle.promises.specs.ImageRefusals.{Images-meet-theirs, One-to-seve
 use Rattle.promises.specs.Ramps.{Every-ramp-lasts, Every-ramp-moves-on, Every-ramp-on-time, Every-ramp-0-at-once, Starts-again}
 use Rattle.promises.specs.Restoring.{Always-fits, Count-is-difference, Equal-images, Each-accepted, Arrives, Shortest, Cut-anywhere, Taken-up-again, Turned-away-exactly, Own-image, Refused-lists-write-nothing, One-list}
 use Rattle.promises.specs.Running.{Only-the-fold, Always-sound}
+use Rattle.promises.specs.SameDigits.{Same-digits, Reals-as-before, Given-by-its-table}
 use Rattle.promises.specs.Ticking.{No-nan, Table-sentence, Every-tick}
 use Rattle.controller.specs.Off.{Math-off, Math-error, Table-passes, Logic-off}
 use Rattle.controller.specs.TickLaws.{Words-kept, Register-told, Flags-unwritten, Register-unwritten}
@@ -162,6 +163,12 @@ pub record Asked-for : Type 0 where
   -- "and every output lies between the two Y values of its interval"
   pub stays-between : Stays-between
   pub tables-stay-between : Tables-stay-between
+  -- (vii) "two whole-number arguments are compared as the decimal numbers they stand for, exactly"
+  pub same-digits : Same-digits
+  -- "A REAL32 argument is compared as before."
+  pub reals-as-before : Reals-as-before
+  -- "(a logic block uses those of the table that gave its signal, also where that signal is the last tick's)": that table is 4010h's
+  pub given-by-its-table : Given-by-its-table
   -- (xi) "State and prove for complete, ordered images: a list from one to itself is empty"
   pub empty-to-itself : Equal-images
   -- "there and back have equal counts"

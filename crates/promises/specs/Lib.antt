@@ -9,6 +9,7 @@ pub mod Images
 pub mod Ramps
 pub mod Restoring
 pub mod Running
+pub mod SameDigits
 pub mod Serving
 pub mod Ticking
 pub mod Trap

@@ -1,13 +1,13 @@
--- One condition, one table more, as the loops take them.
+-- One condition, one table more, as the code takes them.
 -- Assumes nothing.
-use Prim.Native.Nat.{ℕ, zero, suc, _+_, _-_, _<_}
+use Prim.Native.Nat.{ℕ, suc, _+_, _-_, _<_}
 use mathlib.Core.Bool.{Bool, true, false}
 use mathlib.Core.List.{List}
-use mathlib.Core.Path.{_≡_, refl, ap, _∙_}
+use mathlib.Core.Path.{_≡_, sym, ap, _∙_}
 use native.Mathlib.Numerals.{add-one}
 use native.Mathlib.Omega.{arith}
 use Rattle.numbers.specs.Choice.{first}
-use Rattle.logic.specs.Gathering.{gathered, settled}
+use Rattle.logic.specs.Gathering.{counts, gathered, settled}
 use Rattle.logic.specs.Logic.{holding}
 use Rattle.logic.proofs.gathering.GatheringLaws.{gathered-all, stays}
 use Rattle.unit.specs.Entry.{byte}
@@ -15,30 +15,38 @@ use Rattle.logic.specs.Logics.{of-logic, of-condition, conditionOf, hold
 
 -- ---- logic: what the operator has gathered of the first conditions
 module _ (unit : List ℕ) (x t operator : ℕ) where
-  unfoldable pub gatheredTo : ℕ → Bool
-  gatheredTo zero = false
-  gatheredTo (suc c) = gathered operator c (gatheredTo c) (conditionOf unit (of-condition x t (suc c)))
+  unfoldable pub counted : ℕ → Bool
+  counted c = counts operator (conditionOf unit (of-condition x t c))
 
-  pub gathered-more : (c : ℕ) → gatheredTo (c + 1) ≡ gathered operator c (gatheredTo c) (conditionOf unit (of-condition x t (c + 1)))
-  unfolding gatheredTo
-  gathered-more c = rw (add-one c)
+  unfoldable pub after-one : Bool
+  unfolding counted
+  after-one = gathered operator 0 false (counted 1)
 
-  pub gathered-three : (operator ≡ 0 → ⊥) → operator ≡ byte unit (of-logic 0x4002 x) t → gatheredTo 3 ≡ holdsOf unit x t
-  unfolding gatheredTo holdsOf
-  gathered-three some e =
-      gathered-all operator some false _ _ _
-      ∙ ap (λ (o : ℕ). holding o (conditionOf unit (of-condition x t 1)) (conditionOf unit (of-condition x t 2)) (conditionOf unit (of-condition x t 3))) e
+  unfoldable pub after-two : Bool
+  unfolding counted
+  after-two = gathered operator 1 after-one (counted 2)
 
-  -- once it is settled nothing more matters
-  pub settled-three : (c : ℕ) → c < 3 → settled operator (gatheredTo (c + 1)) ≡ true → gatheredTo 3 ≡ gatheredTo (c + 1)
-  unfolding gatheredTo
-  settled-three zero h s =
-      let second = stays operator 1 (gatheredTo 1) (conditionOf unit (of-condition x t 2)) s (λ e. omega arith) in
-      ap (λ (so : Bool). gathered operator 2 so (conditionOf unit (of-condition x t 3))) second
-      ∙ stays operator 2 (gatheredTo 1) (conditionOf unit (of-condition x t 3)) s (λ e. omega arith)
-  settled-three (suc zero) h s = stays operator 2 (gatheredTo 2) (conditionOf unit (of-condition x t 3)) s (λ e. omega arith)
-  settled-three (suc (suc zero)) h s = refl
-  settled-three (suc (suc (suc c))) h s = absurd (omega arith)
+  unfoldable pub after-three : Bool
+  unfolding counted
+  after-three = gathered operator 2 after-two (counted 3)
+
+  module _ (some : operator ≡ 0 → ⊥) (e : operator ≡ byte unit (of-logic 0x4002 x) t) where
+    pub gathered-three : after-three ≡ holdsOf unit x t
+    unfolding after-one after-two after-three counted holdsOf
+    gathered-three =
+        gathered-all operator some false _ _ _
+        ∙ ap (λ (o : ℕ). holding o (conditionOf unit (of-condition x t 1)) (conditionOf unit (of-condition x t 2)) (conditionOf unit (of-condition x t 3))) e
+
+    -- once it is settled nothing more matters
+    pub settled-by-two : settled operator after-two ≡ true → after-two ≡ holdsOf unit x t
+    unfolding after-three
+    settled-by-two s = sym (stays operator 2 after-two (counted 3) s (λ z. omega arith)) ∙ gathered-three
+
+    pub settled-by-one : settled operator after-one ≡ true → after-one ≡ holdsOf unit x t
+    unfolding after-two
+    settled-by-one s =
+        let same = stays operator 1 after-one (counted 2) s (λ z. omega arith) in
+        sym same ∙ settled-by-two (rw same s)
 
 -- ---- logic: the first of A, B, C that holds
 module _ (unit : List ℕ) (x t : ℕ) (h : t < 3) where

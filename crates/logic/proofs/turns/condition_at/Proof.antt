@@ -1,107 +1,86 @@
--- Arguments are looked up as REAL32, which changes no verdict (`LogicLaws`).
+-- By the first argument: a whole number may be one of two, all else is judged as before, the second read as REAL32 (`LogicLaws`).
 -- Assumes nothing.
-use mathlib.Core.Bool.{Bool, true}
-use mathlib.Core.Path.{_≡_, sym, ap, _∙_}
+use mathlib.Core.Path.{sym, _∙_}
 use borrow.Author.Needs.{needs}
-use Rattle.signals.specs.Signal.{isAbsent, asReal}
-use Rattle.signals.specs.declared.signal.Signal.{Signal}
-use Rattle.signals.proofs.SignalLaws.{real-absent}
-use Rattle.logic.proofs.LogicLaws.{verdict-real, verdict-absent}
-use Rattle.logic.specs.Logics.{conditionAt}
+use mir.Syntax.{w16}
+use mir.Val.{SFits}
+use mir.Facts.{toZ-ofZ}
+use Rattle.logic.specs.Logics.{judgedAt, conditionAt}
+use Rattle.logic.proofs.LogicLaws.{verdict-real, judged-absent, as-before}
 use Rattle.logic.proofs.turns.condition_at.Statement.{statement}
 use Rattle.logic.proofs.turns.condition_at.Tie as tie
 
-missing : (l : Signal) {s : Signal} {b : Bool} → b ≡ isAbsent s → s ≡ asReal l → b ≡ true → isAbsent l ≡ true
-missing l e f g = sym (real-absent l) ∙ ap isAbsent (sym f) ∙ sym e ∙ g
-
-byte-at-requires : tie.Need-byte-at-requires
-byte-at-requires c κs = search needs
-
-add-byte-at : tie.Need-add-byte-at
-add-byte-at c = search needs
-
-byte-at-requires-2 : tie.Need-byte-at-requires-2
-byte-at-requires-2 c κs = search needs
-
-look-up-requires : tie.Need-look-up-requires
-look-up-requires c κs = search needs
-
-as-real-requires : tie.Need-as-real-requires
-as-real-requires c κs = search needs
+argument-at-requires : tie.Need-argument-at-requires
+argument-at-requires c κs = search needs
 
 absent-requires : tie.Need-absent-requires
 absent-requires c κs = search needs
 
 returns : tie.Need-returns
-unfolding conditionAt
+unfolding conditionAt judgedAt
 returns c =
-    let l = c .before .before .before in
-    let found = rw (l .before .before .byte-at .ensures, l .before .byte-at2 .ensures) at (l .look-up .ensures) in
-    sym (verdict-absent _ _ _ (missing _ (c .before .absent .ensures) (c .before .before .as-real .ensures ∙ ap asReal found) (c .if1 .taken)))
+    sym (judged-absent _ _ _ _ _ (rw (← c .before .before .argument-at .ensures) (sym (c .before .absent .ensures) ∙ c .if1 .taken)))
 
-add-byte-at-2 : tie.Need-add-byte-at-2
-add-byte-at-2 c = search needs
+enum-known-left : tie.Need-enum-known-left
+enum-known-left c = search needs
 
-byte-at-requires-3 : tie.Need-byte-at-requires-3
-byte-at-requires-3 c κs = search needs
+add-argument-at : tie.Need-add-argument-at
+add-argument-at c = search needs
 
-add-byte-at-3 : tie.Need-add-byte-at-3
-add-byte-at-3 c = search needs
+argument-at-requires-2 : tie.Need-argument-at-requires-2
+argument-at-requires-2 c κs = search needs
 
-byte-at-requires-4 : tie.Need-byte-at-requires-4
-byte-at-requires-4 c κs = search needs
+as-real-requires : tie.Need-as-real-requires
+as-real-requires c κs = search needs
 
-look-up-requires-2 : tie.Need-look-up-requires-2
-look-up-requires-2 c κs = search needs
+add-byte-at : tie.Need-add-byte-at
+add-byte-at c = search needs
 
-as-real-requires-2 : tie.Need-as-real-requires-2
-as-real-requires-2 c κs = search needs
-
-add-byte-at-4 : tie.Need-add-byte-at-4
-add-byte-at-4 c = search needs
-
-byte-at-requires-5 : tie.Need-byte-at-requires-5
-byte-at-requires-5 c κs = search needs
+byte-at-requires : tie.Need-byte-at-requires
+byte-at-requires c κs = search needs
 
 condition-requires : tie.Need-condition-requires
 condition-requires c κs = search needs
 
 returns-2 : tie.Need-returns-2
-unfolding conditionAt
+unfolding conditionAt judgedAt
 returns-2 c =
-    let up = c .before .before .before .before .before .before .before .before in
+    let second = c .before .before .before in
+    let other = second .before in
     rw (
-      c .condition .ensures,
-      c .before .before .as-real2 .ensures,
-      up .as-real .ensures,
-      verdict-real,
-      c .before .before .before .look-up2 .ensures,
-      up .before .look-up .ensures,
-      c .before .byte-at5 .ensures,
-      c .before .before .before .before .byte-at4 .ensures,
-      c .before .before .before .before .before .byte-at3 .ensures,
-      up .before .before .byte-at2 .ensures,
-      up .before .before .before .byte-at .ensures,
-    )
+      ← other .before .before .before .argument-at .ensures,
+      ← second .argument-at2 .ensures,
+      as-before _ _ _ _ _ (other .match .keys2),
+      ← verdict-real,
+      ← c .before .before .as-real .ensures,
+      ← c .before .byte-at .ensures,
+    ) (c .condition .ensures)
+
+against-whole-requires : tie.Need-against-whole-requires
+against-whole-requires c κs = search needs
+
+returns-3 : tie.Need-returns-3
+unfolding conditionAt
+returns-3 c =
+    let known = c .before .before in
+    let v : SFits w16 (known .left .given .0 .0) = search needs in
+    rw (← known .before .before .before .before .argument-at .ensures, known .left .given .1)
+    (rw (toZ-ofZ v) at (c .against-whole .ensures))
 
 pub condition-at-spec : {M : Type 1} → statement M
 condition-at-spec =
     tie.close
     (tie.spec
-    byte-at-requires
-    add-byte-at
-    byte-at-requires-2
-    look-up-requires
-    as-real-requires
+    argument-at-requires
     absent-requires
     returns
-    add-byte-at-2
-    byte-at-requires-3
-    add-byte-at-3
-    byte-at-requires-4
-    look-up-requires-2
-    as-real-requires-2
-    add-byte-at-4
-    byte-at-requires-5
+    enum-known-left
+    add-argument-at
+    argument-at-requires-2
+    as-real-requires
+    add-byte-at
+    byte-at-requires
     condition-requires
-    returns-2)
+    returns-2
+    against-whole-requires
+    returns-3)
