@@ -20,7 +20,7 @@ use Rattle.numbers.proofs.OrderLaws.{between-fits}
 use Rattle.signals.proofs.keeping.WordLaws.{pattern-read}
 use Rattle.signals.specs.Signal as signals
 use Rattle.signals.specs.declared.signal.Signal.{Signal}
-use Rattle.dictionary.specs.Names.{slot-of, writable}
+use Rattle.dictionary.specs.Names.{slot-of, received-to}
 use Rattle.dictionary.specs.Unit.{signals-at, runs-at, flags-at, unit-size}
 use Rattle.dictionary.proofs.naming.NameLaws.{counted}
 use Rattle.output.specs.Output.{byRule, command, faultOf}
@@ -56,7 +56,7 @@ command-fits s c e o last order f1 f2 ff fo fl =
 
 -- ---- the configuration of an output, where the words of the configuration are the same
 
-module _ (u v : List ℕ) (alike : (slot : ℕ) → slot < writable → getD u slot 0 ≡ getD v slot 0) (k : ℕ) (h : k < 4) where
+module _ (u v : List ℕ) (alike : (slot : ℕ) → slot < received-to → getD u slot 0 ≡ getD v slot 0) (k : ℕ) (h : k < 4) where
   word : (index : ℕ) {slot : ℕ} → stretch index 1 4 slot ≡ has index → slot + 4 ≤ 611 → getD u (slot-of index (k + 1)) 0 ≡ getD v (slot-of index (k + 1)) 0
   word index e l = alike (slot-of index (k + 1)) (omega (arith, array index e k h, counted))
 
@@ -111,7 +111,7 @@ module _ (samples : List ℤ) (unit : List ℕ) (size : length unit ≡ unit-siz
     ordered : whole (ticked samples unit) 0x7321 (k + 1) <ℤ whole (ticked samples unit) 0x7323 (k + 1)
     unfolding whole entry has
     ordered =
-        let same : (slot : ℕ) → slot < writable → getD (ticked samples unit) slot 0 ≡ getD unit slot 0 = λ slot l. words-kept samples unit slot (before l) in
+        let same : (slot : ℕ) → slot < received-to → getD (ticked samples unit) slot 0 ≡ getD unit slot 0 = λ slot l. words-kept samples unit slot (before l) in
         rw (word (ticked samples unit) unit same k h 0x7321 refl (lit≤ tt), word (ticked samples unit) unit same k h 0x7323 refl (lit≤ tt)) (below-is-lt _ _ order)
 
     pub by-rule : let after = ticked samples unit in
