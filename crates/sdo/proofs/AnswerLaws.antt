@@ -52,7 +52,7 @@ module _ (words frame : List ℕ) (size : Size) (slot : ℕ) where
     unfolding writing offered first
     too-short l = simp (lt-ltb slot writable h, ← e, ← told, le-ltb own n (omega arith), lt-ltb n own l)
 
-    in-full : n ≡ own → (word : ℕ) → word ≡ data-in own frame
+    pub in-full : n ≡ own → (word : ℕ) → word ≡ data-in own frame
         → first (unclear slot word) (Aborted abort.NotClear) (stored slot word (judged words slot word)) ≡ writing words frame size (found.At slot)
     unfolding writing offered first
     in-full same word d = simp (lt-ltb slot writable h, ← e, ← told, same, le-ltb own own (omega arith), ← d)

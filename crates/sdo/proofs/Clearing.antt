@@ -1,16 +1,16 @@
 -- Writes to 1003h:0: any byte is in its range and no chain has it, so "after order 6" is as good as after order 9.
 -- Assumes nothing.
-use Prim.Native.Nat.{ℕ, _%_, zero-le}
+use Prim.Native.Nat.{ℕ, _%_, _<_, _≤_, zero-le}
 use mathlib.Core.Bool.{Bool, true, false, _&&_, not, and-eq-true-iff, and-false}
 use mathlib.Core.List.{List}
 use mathlib.Core.Path.{_≡_, refl, ap, _∙_}
 use native.Mathlib.Omega.{arith}
-use lib.Dec.{eqb}
+use lib.Dec.{eqb, lit≤}
 use lib.IntN.{pos}
-use borrow.Author.Tests.{eqb-true, le-ltb}
+use borrow.Author.Tests.{eqb-true, ne-eqb, le-ltb}
 use Rattle.numbers.specs.Choice.{first}
 use Rattle.numbers.specs.Order.{below}
-use Rattle.dictionary.specs.Names.{slot-of}
+use Rattle.dictionary.specs.Names.{slot-of, configured}
 use Rattle.dictionary.specs.Rows.{u8}
 use Rattle.roles.specs.Chains.{chains, upper-in, lower-in, upper-of, lower-of}
 use Rattle.roles.specs.Values.{range-of}
@@ -20,6 +20,7 @@ use Rattle.entries.specs.declared.types.Verdict.{Verdict}
 use Rattle.entries.specs.declared.types.Verdict.the-variants.{Good}
 use Rattle.sdo.specs.Answers.{stored, unclear}
 use Rattle.sdo.specs.declared.types.Abort.the-variants as abort
+use Rattle.sdo.specs.declared.types.Answer.{Answer}
 use Rattle.sdo.specs.declared.types.Answer.the-variants.{Aborted}
 
 own-range : range-of (slot-of 0x1003 0) ≡ u8 0 255 0 .range
@@ -38,9 +39,18 @@ a-byte : (word : ℕ) → within (pos (word % 0x100)) (pos 0) (pos 255) ≡ Good
 unfolding within below first
 a-byte word = rw (le-ltb 255 (word % 0x100) (omega arith), le-ltb (word % 0x100) 0 zero-le)
 
-any-good : (unit : List ℕ) (word : ℕ) → judged unit (slot-of 0x1003 0) word ≡ Good
+pub any-good : (unit : List ℕ) (word : ℕ) → judged unit (slot-of 0x1003 0) word ≡ Good
 unfolding judged in-range finite number-of in-order past-upper past-lower before first
 any-good unit word = rw (own-range, no-upper, no-lower, a-byte word)
+
+-- the configuration stands before it
+before-it : configured ≤ slot-of 0x1003 0
+unfolding configured slot-of
+before-it = lit≤ tt
+
+pub configured-through : (slot word : ℕ) → slot < configured → (a : Answer) → first (unclear slot word) (Aborted abort.NotClear) a ≡ a
+unfolding unclear first
+configured-through slot word h a = rw (ne-eqb slot (slot-of 0x1003 0) (λ e. omega (arith, before-it)))
 
 unclear-good : (unit : List ℕ) (slot word : ℕ) → unclear slot word ≡ true → judged unit slot word ≡ Good
 unfolding unclear
