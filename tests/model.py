@@ -277,7 +277,7 @@ class Dictionary:
     def _error_list(self):
         """(viii): 1003h:1-8, and "Sub 0 (u8, 0 at start) is the number kept ..; unlike other arrays' it can be written" """
         self.array(0x1003, 8 * [Kind(UNSIGNED32, 0)], False, False)
-        kept = self.objects[0x1003][0] = Entry(0x1003, 0, u8(0, 255, 0), True, False)
+        kept = self.objects[0x1003][0] = Entry(0x1003, 0, u8(0, 0, 0), True, False)
         self.entries.append(kept)
 
     def is_there(self, entry):

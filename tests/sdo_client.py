@@ -172,7 +172,7 @@ EC_VALUES = """
 
 # Document 02 (viii): the number kept, which can be written; the list itself can only be read.
 ERRORS_KEPT = """
-1003       u8   0       255    0
+1003       u8   0       0      0
 """
 
 ERRORS = """
