@@ -1,4 +1,4 @@
-/* The controller of document 01 in plain C, as a firmware engineer would write it: const rows found by halving, one struct, no
+/* The controller of document 01, with the error list of document 02, in plain C, as a firmware engineer would write it: const rows found by halving, one struct, no
    allocation, and nothing looked up that cannot matter. bench/count holds the Rattle code's instruction counts against it. */
 #include "plain.h"
 #include "plain_rows.h"
@@ -52,7 +52,7 @@ static void store32(uint8_t *p, uint32_t v)
 static int32_t decoded(enum type type, uint32_t data)
 {
     switch (type) {
-    case U8: return (uint8_t)data;
+    case U8: case CLEARED: return (uint8_t)data;
     case U16: return (uint16_t)data;
     case I16: return (int16_t)data;
     default: return (int32_t)data;
@@ -68,6 +68,8 @@ static uint32_t write(struct plain *s, const struct row *row, uint32_t sub, uint
     if (size != types[row->type].size)
         return size > types[row->type].size ? 0x06070012 : 0x06070013;
     value = decoded(row->type, data);
+    if (row->type == CLEARED && value)
+        return 0x06090030;
     if (row->type == R32 && (data & 0x7F800000) == 0x7F800000)
         return 0x06090030;
     if (value > row->high)
@@ -105,7 +107,8 @@ int32_t plain_serve(struct plain *s, const uint8_t *frame, size_t frame_length, 
     row = find((head & 0xFFFF00) | sub);
     if (row->name >> 8 != (head >> 8 & 0xFFFF))
         return reply_with(reply, 0x80, name, 0x06020000);
-    if (sub > row->last)
+    /* of 1003h as many subs are there as errors are kept */
+    if (sub > row->last || (row->type == U32 && (int32_t)sub > s->errors_kept))
         return reply_with(reply, 0x80, name, 0x06090011);
     if (command == 0x40) {
         if (sub == 0 && row->largest)
@@ -166,6 +169,15 @@ static int32_t integer16(struct signal v)
 
 /* ---- One tick */
 
+static void enter(struct plain *s, int k)
+{
+    for (int i = 7; i > 0; i--)
+        s->errors[i] = s->errors[i - 1];
+    s->errors[0] = (k + 1) << 16 | 0xFF00;
+    if (s->errors_kept < 8)
+        s->errors_kept++;
+}
+
 static void watch(struct plain *s, int k, int32_t sample)
 {
     int32_t start = s->span_start[k], end = s->span_end[k];
@@ -175,8 +187,11 @@ static void watch(struct plain *s, int k, int32_t sample)
     } else if (sample < start || sample > end) {
         if (s->run[k] < 65536) /* beyond every delay */
             s->run[k]++;
-        if (s->run[k] > s->delay[k])
+        if (s->run[k] > s->delay[k]) {
+            if (!s->flagged[k])
+                enter(s, k);
             s->flagged[k] = 1;
+        }
     } else {
         s->run[k] = 0;
         if (s->flagged[k] && start + s->hysteresis[k] <= sample && sample <= end - s->hysteresis[k])

@@ -41,6 +41,7 @@ struct ramp {
 /* Every name of the dictionary is a word of its own, a whole number or a REAL32; the rows in plain.c say which. */
 struct plain {
     int32_t error_register;
+    int32_t errors_kept, errors[8]; /* newest first */
     int32_t ec[12], ec_digits[12], ec_from[12], ec_to[12];
     int32_t detect[4], hysteresis[4], delay[4], input_digits[4];
     int32_t sample[4], pv[4], fv1[4], pv1[4], fv2[4], pv2[4], span_start[4], span_end[4];

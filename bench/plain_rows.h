@@ -1,9 +1,9 @@
-/* The names of document 01 as const rows, ascending: what each holds, its place in struct plain, its neighbours in a chain. */
+/* The names of document 01, and 1003h of document 02, as const rows, ascending: what each holds, its place in struct plain, its neighbours in a chain. */
 #ifndef PLAIN_ROWS_H
 #define PLAIN_ROWS_H
 #include "plain.h"
 
-enum type { U8, U16, I16, R32 };
+enum type { U8, U16, I16, R32, U32, CLEARED }; /* CLEARED: an UNSIGNED8 that takes 0 alone */
 
 static const struct {
     uint8_t size, read;
@@ -13,6 +13,8 @@ static const struct {
     [U16] = {2, 0x4B, 0xFFFF},
     [I16] = {2, 0x4B, 0xFFFF},
     [R32] = {4, 0x43, 0xFFFFFFFF},
+    [U32] = {4, 0x43, 0xFFFFFFFF},
+    [CLEARED] = {1, 0x4F, 0xFF},
 };
 
 /* The first row of an ARRAY stands at its sub 0; what an ARRAY's subs do not share is told by several rows. */
@@ -70,6 +72,8 @@ struct row {
 
 static const struct row rows[] = {
     VAR(0x1001, error_register, SHOWN(U8)),
+    VAR(0x1003, errors_kept, .type = CLEARED),
+    PART(0x1003, 1, 8, 8, errors, SHOWN(U32)),
     ARRAY(0x2110, 4, detect, BYTE(1), .start = 1),
     ARRAY(0x2111, 4, hysteresis, .type = I16, .high = 32767, .start = 100),
     ARRAY(0x2112, 4, delay, TIME),
@@ -123,8 +127,11 @@ static const struct row rows[] = {
 
 #define ROWS (sizeof rows / sizeof rows[0])
 
-/* What is only shown is no configuration, and the EC values are not either. */
-static inline int is_configured(const struct row *row) { return !row->fixed && row->name >> 8 != 0x2500; }
+/* What is only shown is no configuration, and the EC values and 1003h:0 are not either. */
+static inline int is_configured(const struct row *row)
+{
+    return !row->fixed && row->name >> 8 != 0x2500 && row->type != CLEARED;
+}
 
 /* The first sub with an entry: an ARRAY's sub 0 is its largest sub. */
 static inline uint32_t first_sub(const struct row *row)

@@ -2,17 +2,21 @@
 
     python3 eds/make.py > eds/valve-controller.eds
 
-It knows document 01, request (vii) of document 02 for a comment, and document 000's words for the objects, and nothing of the program.
+It knows document 01, of document 02 request (vii) for a comment and 1003h, document 000's and DS-301's words for the objects, and nothing of the program.
 """
 
 import re
 import sys
 
 # Index and subs, the entry in the paper's notation ("type low..high = default"), and its name in plain words. A row without subs
-# is a VAR. A name's {sub} is left out for the array itself; an array of several rows has a row with its own name first.
+# is a VAR. A name's {sub} is left out for the array itself; an array of several rows has a row with its own name first, and
+# one whose sub 0 is no largest sub-index a row for that.
 # Letters in an index: z = 1..6, x = 1..2, y = 6..9 for math 1..4, i = 1..3 for functions A to C, j = 1..3.
 OBJECTS = """
 1001      | ro u8 = 0           | Error register
+1003      | ARRAY               | Pre-defined error field
+1003:0    | u8 0..0 = 0         | Pre-defined error field, number of errors
+1003:1-8  | ro u32 = 0          | Pre-defined error field, error {sub}
 
 2110:1-4  | u8 0..1 = 1         | Input {sub} error detect enable
 2111:1-4  | i16 0..32767 = 100  | Input {sub} error clear hysteresis
@@ -103,6 +107,7 @@ LARGEST_REAL32 = (2 - 2**-23) * 2.0**127
 TYPES = {
     "u8": (0x0005, 0, 255),
     "u16": (0x0006, 0, 65535),
+    "u32": (0x0007, 0, 4294967295),
     "i16": (0x0003, -32768, 32767),
     "real": (0x0008, -LARGEST_REAL32, LARGEST_REAL32),
 }
@@ -171,6 +176,8 @@ The limits are an entry's own range. A write must also keep these chains, or it 
 Decimal digits say what a whole number stands for: 125 with one digit is 12.5. A condition of a logic block (4x11h to 4x33h) compares two whole
 numbers by the digits of their sources, 2502h, 6132h or 30z3h. All other digits, and 2520h and 2522h, are stored and used by no block.
 A REAL32 takes every finite value: its limits are the largest finite ones, in decimals, as its default is.
+1003h:0 reads how many errors are kept, 8 at most, the newest at sub 1. Its limits are what it takes: 0, which clears them all.
+While fewer are kept, an SDO to a sub of 1003h above that number is refused with 06090011h.
 """
 
 
@@ -195,7 +202,7 @@ def entry(text):
 
 
 def objects():
-    """Each index with its name and sub -> what stands in its section, ascending. Sub 0 is there for a VAR only."""
+    """Each index with its name and sub -> what stands in its section, ascending. An array's sub 0 is there only if it has a row."""
     found = {}
     for row in filter(None, OBJECTS.splitlines()):
         place, text, name = (field.strip() for field in row.split("|"))
@@ -232,12 +239,12 @@ def value_section(section, name, code, low, high, access, default):
 
 
 def object_sections(index, name, subs):
-    if 0 in subs:
+    if list(subs) == [0]:
         return value_section("%04X" % index, *subs[0])
     largest = max(subs)
-    lines = ["[%04X]" % index, "ParameterName=" + name, "ObjectType=0x%X" % ARRAY, "SubNumber=%d" % (len(subs) + 1), ""]
     # sub 0: "the largest sub-index (UNSIGNED8, read only)"
-    lines += value_section("%04Xsub0" % index, name + ", largest sub-index", TYPES["u8"][0], largest, largest, "ro", largest)
+    subs = {0: (name + ", largest sub-index", TYPES["u8"][0], largest, largest, "ro", largest), **subs}
+    lines = ["[%04X]" % index, "ParameterName=" + name, "ObjectType=0x%X" % ARRAY, "SubNumber=%d" % len(subs), ""]
     for sub, facts in sorted(subs.items()):
         lines += value_section("%04Xsub%X" % (index, sub), *facts)
     return lines

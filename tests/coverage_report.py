@@ -118,6 +118,49 @@ def see_bad_tick(fields):
         hit("? no INTEGER16")
 
 
+# --------------------------------------------------------------------------- Error list
+
+
+def see_error_name(dictionary, frame, good):
+    """(viii): what is asked of 1003h, and whether it is there."""
+    kept, sub = dictionary.entry(0x1003, 0).value, frame[3]
+    if sub > 8 or frame[0] not in (0x40, 0x23, 0x2F, 0x22):
+        return
+    what = "read" if frame[0] == 0x40 else "written"
+    if sub:
+        hit("1003h sub that is", "kept" if sub <= kept else "not kept", what)
+    elif good and what == "written":
+        hit("1003h cleared")
+
+
+def watch_error_list():
+    plain_frame, plain_tick = model.Controller.frame, model.Controller.tick
+
+    def frame(self, frame, room=8):
+        kept = self.error_list.number.value
+        reply = plain_frame(self, frame, room)
+        if frame[1:3] == b"\x03\x10":
+            see_error_name(self.dictionary, frame, reply is not None and reply[0] == 0x60)
+            if kept and not self.error_list.number.value and any(block.flagged for block in self.inputs):
+                hit("1003h cleared while flagged")
+        return reply
+
+    def tick(self, samples):
+        before, kept = [block.flagged for block in self.inputs], self.error_list.number.value
+        plain_tick(self, samples)
+        entered = sum(block.flagged > flagged for block, flagged in zip(self.inputs, before))
+        if entered:
+            hit("1003h enters", entered, "on one tick")
+        if kept + entered > 8:
+            hit("1003h loses the oldest")
+        if kept and any(block.flagged < flagged for block, flagged in zip(self.inputs, before)):
+            hit("1003h keeps what has cleared")
+        if not kept and any(before) and not entered:
+            hit("1003h stays empty under a flag")
+
+    model.Controller.frame, model.Controller.tick = frame, tick
+
+
 # --------------------------------------------------------------------------- Input
 
 
@@ -441,6 +484,7 @@ def install():
     wrapped(model, "refusal", see_refusal)
     wrapped(model, "answer", see_answer)
     wrapped(model.Printer, "answer", see_line)
+    watch_error_list()
     watch_input()
     wrapped(model, "nearest", see_nearest)
     wrapped(model, "integer16", see_integer16)
@@ -472,6 +516,10 @@ def expected():
     yield from ("22h takes %d bytes and leaves others" % size for size in (1, 2))
     yield from ("22h row " + row for row in ("3", "4", "5", "7", "8 above", "8 below", "9 above", "9 below"))
     yield from ("row 2 %02Xh" % command for command in (0x26, 0x2A, 0x2E))
+    yield from ("row 1003h:0", "22h row 1003h:0", "1003h cleared", "1003h cleared while flagged", "1003h loses the oldest")
+    yield from ("1003h enters %d on one tick" % count for count in (1, 2, 3, 4))
+    yield from ("1003h sub that is %s %s" % (kept, done) for kept in ("kept", "not kept") for done in ("read", "written"))
+    yield from ("1003h keeps what has cleared", "1003h stays empty under a flag")
     yield from ("line T", "line S with reply", "line S without reply", "line ?", "line T with leading zeros")
     for what in "empty/longer than 64/of 64/CR/NUL/byte over 127/spaces/lower case/one digit off".split("/"):
         yield "? " + what

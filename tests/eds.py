@@ -78,7 +78,8 @@ LISTS = {
     "ManufacturerObjects": lambda index: 0x2000 <= index < 0x6000,
 }
 
-TYPES = {0x0003: model.INTEGER16, 0x0005: model.UNSIGNED8, 0x0006: model.UNSIGNED16, 0x0008: model.REAL32}
+TYPES = {0x0003: model.INTEGER16, 0x0005: model.UNSIGNED8, 0x0006: model.UNSIGNED16, 0x0007: model.UNSIGNED32, 0x0008: model.REAL32}
+ERRORS = 0x1003  # its sub 0 is no largest sub: how many errors are kept, and 0 clears them; a fresh unit keeps none
 LARGEST_REAL32 = struct.unpack("<f", b"\xff\xff\x7f\x7f")[0]
 
 
@@ -194,6 +195,9 @@ class Sheet:
         for sub in subs:
             self._value(index, sub, title + SUBS[sub], self._taken(title + SUBS[sub]))
         largest = self.entries[index, 0]
+        if index == ERRORS:
+            demand(largest.type is model.UNSIGNED8 and largest.writable, "[%ssub0]: not an UNSIGNED8 that can be written" % title)
+            return
         demand(largest.type is model.UNSIGNED8 and not largest.writable, "[%ssub0]: not a read-only UNSIGNED8" % title)
         demand(largest.low == largest.default == largest.high == subs[-1], "[%ssub0]: not the largest sub" % title)
 
@@ -249,15 +253,19 @@ def refused_write(entry, data, reason):
     return refused(download(entry.index, entry.sub, data), entry.index, entry.sub, reason)
 
 
+def is_error(entry):
+    return entry.index == ERRORS and entry.sub > 0
+
+
 def defaults(sheet):
     for entry in sheet.entries.values():
-        yield reading(entry, entry.default)
+        yield refused(upload(entry.index, entry.sub), entry.index, entry.sub, "sub") if is_error(entry) else reading(entry, entry.default)
 
 
 def access(sheet):
     for entry in sheet.entries.values():
         data = entry.bytes_of(entry.default)
-        yield writing(entry, data) if entry.writable else refused_write(entry, data, "read only")
+        yield writing(entry, data) if entry.writable else refused_write(entry, data, "sub" if is_error(entry) else "read only")
 
 
 def sizes(sheet):
@@ -277,10 +285,18 @@ def limits(sheet):
             yield from real_limits(entry)
 
 
+def clearing(sheet):
+    """1003h:0 takes what is between its limits, and no other value."""
+    kept = sheet.entries[ERRORS, 0]
+    for value in range(256):
+        data = kept.bytes_of(value)
+        yield writing(kept, data) if kept.low <= value <= kept.high else refused_write(kept, data, "not 0")
+
+
 def chains(sheet):
     """The paper's chains as lists of (entry, gap to the one below), lowest first; an entry in none is a chain of its own."""
     paper = sdo_client.Paper().names
-    whole = [key for key, entry in sheet.entries.items() if entry.writable and entry.type is not model.REAL32]
+    whole = [key for key, entry in sheet.entries.items() if entry.writable and entry.type is not model.REAL32 and entry.index != ERRORS]
     for key in whole:
         if key in paper and paper[key].below:
             continue
@@ -340,7 +356,7 @@ def other_indexes(sheet):
         yield refused(download(index, 1, b"\0"), index, 1, "index")
 
 
-WALK = (defaults, access, sizes, limits, other_subs, other_indexes)
+WALK = (defaults, access, sizes, limits, clearing, other_subs, other_indexes)
 
 
 def walked(path, requests):

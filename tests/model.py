@@ -21,6 +21,7 @@ REQUESTS = (
     "i",
     "ii",
     "vii",
+    "viii",
 )
 
 # --------------------------------------------------------------------------- Numbers
@@ -107,6 +108,7 @@ UNSIGNED8 = Type("UNSIGNED8", "<B", 0, 255)
 UNSIGNED16 = Type("UNSIGNED16", "<H", 0, 65535)
 INTEGER16 = Type("INTEGER16", "<h", -32768, 32767)
 REAL32 = Type("REAL32", "<f", -INFINITY, INFINITY)
+UNSIGNED32 = Type("UNSIGNED32", "<I", 0, 2**32 - 1)
 
 
 class Kind:
@@ -275,6 +277,18 @@ class Dictionary:
         self.array(0x5010, [zero_real, Kind(REAL32, 1.0)] + 13 * [zero_real])
         for sub in (1, 2):
             self.entry(0x5010, sub).writable = self.entry(0x5010, sub).configuration = False
+        if "viii" in REQUESTS:
+            self._error_list()
+
+    def _error_list(self):
+        """(viii): 1003h:1-8, and "Sub 0 (u8, 0 at start) is the number kept ..; unlike other arrays' it can be written" """
+        self.array(0x1003, 8 * [Kind(UNSIGNED32, 0)], False, False)
+        kept = self.objects[0x1003][0] = Entry(0x1003, 0, u8(0, 0, 0), True, False)
+        self.entries.append(kept)
+
+    def is_there(self, entry):
+        """(viii): "a sub above the number kept gives 06090011h", to reads and writes (OP 127)"""
+        return entry.index != 0x1003 or entry.sub <= self.entry(0x1003, 0).value
 
     def _chains(self):
         """ "Chains, true at all times" """
@@ -334,6 +348,9 @@ def value_refusal(entry, command, data):
         return 6, 0x06070012
     if size < entry.type.size:
         return 6, 0x06070013
+    # (viii): "another value at sub 0 gives 06090030h, after order 6" (0 is taken also where the list is empty, OP 128)
+    if entry.index == 0x1003 and data[0] != 0:
+        return "1003h:0", 0x06090030
     value = entry.type.form.unpack_from(data)[0]
     if entry.type is REAL32 and not math.isfinite(value):
         return 7, 0x06090030
@@ -357,7 +374,7 @@ def refusal(dictionary, frame):
     if subs is None:
         return 3, 0x06020000
     entry = subs.get(frame[3])
-    if entry is None:
+    if entry is None or not dictionary.is_there(entry):
         return 4, 0x06090011
     if command == READ:
         return None
@@ -413,6 +430,21 @@ class Pair:
         """(vii): "the decimal numbers they stand for", by the digits of the source "as they stand when compared" """
         digits = self.blocks[self.source.value, self.number.value].digits
         return fractions.Fraction(number, 10**digits.value)
+
+
+class ErrorList:
+    """(viii): "Keep the last 8 flaggings beside the inputs, newest at sub 1" """
+
+    def __init__(self, names):
+        self.number, self.places = names.entry(0x1003, 0), names.array_of(0x1003)
+
+    def enter(self, n):
+        """ "code in the low half, input number in the high half; the code is FF00h" """
+        kept = [place.value for place in self.places[: self.number.value]]
+        kept = [n << 16 | 0xFF00] + kept[:7]
+        for place, error in zip(self.places, kept):
+            place.value = error
+        self.number.value = len(kept)  # "the number kept and always agrees with the list"
 
 
 class Input:
@@ -794,6 +826,7 @@ class Controller:
         self.logic = [Logic(names, blocks, self.tables, x) for x in (1, 2)]
         self.outputs = [Output(names, blocks, n) for n in range(1, 5)]
         self.error_register = names.entry(0x1001)
+        self.error_list = ErrorList(names) if "viii" in REQUESTS else None
         ec = [Held(entry, digits) for entry, digits in zip(names.array_of(0x2500), names.array_of(0x2502))]
         constants = [Held(entry) for entry in names.array_of(0x5010)]
         for source, row in (
@@ -815,8 +848,12 @@ class Controller:
         Every block's signal stays until its next step, so "a block that reads a later
         block, or itself, sees the last tick's signal" with nothing more to do.
         """
-        for block, sample in zip(self.inputs, samples):
+        for n, (block, sample) in enumerate(zip(self.inputs, samples), 1):
+            before = block.flagged
             block.step(sample)
+            # a flagging: from not flagged to flagged (OP 126); "Two on one tick enter by input number"
+            if self.error_list and block.flagged and not before:
+                self.error_list.enter(n)
         for row in (self.math, self.tables, self.logic, self.outputs):
             for block in row:
                 block.step()

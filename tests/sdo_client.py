@@ -2,7 +2,7 @@
 
 It builds expedited frames from DS-301's bit fields, walks every name of document 01 with
 good and bad requests, and checks each reply against what the paper says, and document 02 of
-writes that do not tell their size. It has its own table of names and its own memory of what
+writes that do not tell their size and of the error list. It has its own table of names and its own memory of what
 was accepted; it shares nothing with the model.
 
     python3 sdo_client.py PROGRAM
@@ -170,6 +170,15 @@ EC_VALUES = """
 2500:1-12  i16  -32768  32767  0
 """
 
+# Document 02 (viii): the number kept, which can be written; the list itself can only be read.
+ERRORS_KEPT = """
+1003       u8   0       0      0
+"""
+
+ERRORS = """
+1003:1-8   u32  0       4294967295 0
+"""
+
 # 5010h:2 is 1.0, whose REAL32 pattern is 3F800000h.
 READ_ONLY = """
 1001       u8   0       255    0
@@ -193,7 +202,7 @@ CHAINS = """
 7321 < 7323
 """
 
-SIZES = {"u8": 1, "u16": 2, "i16": 2, "real": 4}
+SIZES = {"u8": 1, "u16": 2, "u32": 4, "i16": 2, "real": 4}
 LETTERS = {"z": "123456", "x": "12", "y": "6789"}
 
 
@@ -245,6 +254,7 @@ class Paper:
         conditions = "".join(CONDITION.replace("{c}", c) for c in CONDITIONS.split()).replace("\n\n", "\n")
         self.configuration = list(names_of(CONFIGURATION, True)) + list(names_of(conditions, True))
         self.others = list(names_of(EC_VALUES, True)) + list(names_of(READ_ONLY, False))
+        self.others += list(names_of(ERRORS_KEPT, True)) + list(names_of(ERRORS, False))
         self.names = {(n.index, n.sub): n for n in self.configuration + self.others}
         self.indexes = collections.defaultdict(list)
         for name in self.configuration + self.others:
@@ -289,6 +299,7 @@ CODES = {
     "longer": 0x06070012,
     "shorter": 0x06070013,
     "not finite": 0x06090030,
+    "not 0": 0x06090030,
     "above": 0x06090031,
     "below": 0x06090032,
 }
@@ -303,6 +314,8 @@ def reason_against(name, data):
     if len(data) != name.size:
         return "longer" if len(data) > name.size else "shorter"
     value = name.value_of(data)
+    if name.index == 0x1003:  # "another value at sub 0 gives 06090030h, after order 6"
+        return "not 0" if value else None
     if name.type == "real":  # an exponent of all ones is an infinity or no number
         return "not finite" if value >> 23 & 0xFF == 0xFF else None
     if not name.low <= value <= name.high:
@@ -321,6 +334,7 @@ class Client:
         self.paper = Paper()
         self.lines = []
         self.expected = []
+        self.flagged = set()
         self.counts = collections.Counter()
 
     def request(self, raw):
@@ -340,7 +354,7 @@ class Client:
         if index not in self.paper.indexes:
             return Reply("abort", index, sub, 0, CODES["index"])
         name = self.paper.names.get((index, sub))
-        if name is None:
+        if name is None or index == 0x1003 and sub > self.paper.names[0x1003, 0].held:
             return Reply("abort", index, sub, 0, CODES["sub"])
         if reading:
             return Reply("value", index, sub, name.size, int.from_bytes(name.bytes_of(name.held), "little"))
@@ -466,6 +480,44 @@ class Client:
         for name in members:
             self.write(name, name.held - way)
 
+    def tick(self, flagged):
+        """A tick with these inputs above their span, the others inside; each new flagging must enter the list."""
+        errors = [self.paper.names[0x1003, sub] for sub in range(9)]
+        for n in sorted(flagged - self.flagged):
+            for newer, older in zip(errors[7:0:-1], errors[8:1:-1]):
+                older.held = newer.held
+            errors[1].held = n * 0x10000 + 0xFF00
+            errors[0].held = min(8, errors[0].held + 1)
+        self.flagged = flagged
+        self.lines.append(b"T %d %d %d %d" % tuple(5001 if n in flagged else 2500 for n in (1, 2, 3, 4)))
+        self.expected.append(b"O 0 0 0 0 21" if flagged else b"O 0 0 0 0 00")
+
+    def error_list(self):
+        """Flaggings alone and together, ten in all; every sub read and written after each, then cleared under the flag."""
+        delays = [self.paper.names[0x2112, n] for n in (1, 2, 3, 4)]
+        names = [self.paper.names[0x1003, sub] for sub in range(9)]
+        for name in delays:
+            self.write(name, 0)
+        for flagged in ({2}, {2, 3}, set(), {1, 2, 3, 4}, set(), {4}, {4}, {1, 4}, set(), {3}):
+            self.tick(flagged)
+            for name in names:
+                self.read(name)
+                self.request(download(name.index, name.sub, b"\x01"))
+                self.request(download(name.index, name.sub, bytes(4)))
+                self.request(download_untold(name.index, name.sub, b"\xff\x00\x00\x00"))
+            self.request(upload(0x1001, 0))  # 1001h is another name: what it holds is not kept here, a flag is
+            self.expected[-1] = Reply("value", 0x1001, 0, 1, 0x21 if flagged else 0)
+        self.write(names[0], 0)
+        for flagged in ({3}, set()):
+            self.tick(flagged)
+            for name in names:
+                self.read(name)
+                self.request(download(name.index, name.sub, bytes(4)))
+        for name in names[1:]:  # what nobody can read is as delivered
+            name.held = name.default
+        for name in delays:
+            self.restore(name)
+
     def restore(self, name):
         if name.writable:
             self.write(name, name.default)
@@ -492,6 +544,7 @@ class Client:
             self.unused_bytes,
             self.chains,
             self.as_delivered,
+            self.error_list,
             self.ticks_leave_settings,
         ):
             part()

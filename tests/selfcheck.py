@@ -13,6 +13,7 @@ import fractions
 import io
 import pathlib
 import random
+import re
 import struct
 import sys
 
@@ -59,13 +60,13 @@ class Bench:
 
 
 def check_counts():
-    """ "611 entries with 926 bytes of data", "5,207 bytes", and 652 words with the other names"""
+    """ "611 entries with 926 bytes of data", "5,207 bytes", and 661 words with the other names"""
     names = model.Dictionary()
     assert len(names.configuration) == 611
     assert sum(entry.type.size for entry in names.configuration) == 926
     assert 4 + sum(7 + entry.type.size for entry in names.configuration) == 5207
-    assert len(names.entries) == 652
-    return "611 entries, 926 bytes, 652 words"
+    assert len(names.entries) == 661
+    return "611 entries, 926 bytes, 661 words"
 
 
 def check_bench():
@@ -210,6 +211,7 @@ TOUCHES = {
     "i": lambda line: line[4:8] == b"4023",  # 2340h: an output without a control is never under rule 7
     "ii": lambda line: line.startswith(b"S 22"),
     "vii": lambda line: line.startswith(b"S ") and line[4:8] in DIGITS,
+    "viii": lambda line: re.match(rb"S [0-9A-F]{2}0310", line),
 }
 
 

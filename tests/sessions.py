@@ -377,6 +377,22 @@ class Unit:
         for near in rng.sample((start, start + margin - 1, end - margin + 1, end, start + margin, end - margin), 4):
             yield from self.stay(n, near, 1)
 
+    def error_list(self):
+        """(viii): inputs go out and come back, one or several on a tick; the list is read beyond its end, written to, now and then cleared."""
+        rng = self.rng
+        for n in rng.sample(range(1, 5), rng.randint(1, 4)):
+            yield self.set(0x2110, n, 1)
+            yield self.set(0x2112, n, rng.choice((0, 0, 1)))
+            yield self.set(0x2111, n, rng.choice((0, 10)))
+        for _ in range(rng.randint(1, 6)):
+            outside = [fit16(block.end.value + 1) for block in self.controller.inputs]
+            yield tick_line([rng.choice(pair) for pair in zip(outside, self.calm_samples())])
+            if self.chance(30):
+                yield rng.choice(rng.choice(error_list_writes()))
+            if self.chance(40):
+                yield frame_line(0x40, 0x1003, rng.randint(0, 9))
+        yield from read_error_list()
+
     def stay(self, n, value, count):
         samples = self.calm_samples()
         samples[n] = fit16(value)
@@ -847,6 +863,7 @@ class Unit:
         (8, constants),
         (5, input_settings),
         (8, broken_input),
+        (3, error_list),
         (7, math_settings),
         (3, tiny_divisor),
         (4, math_to_the_bit),
@@ -982,9 +999,63 @@ def walk_digits():
     return (HERE / "examples" / "digits.stdin").read_bytes().splitlines()
 
 
+def read_error_list():
+    """(viii): the number kept, the eight, and a sub that is never there."""
+    for sub in range(10):
+        yield frame_line(0x40, 0x1003, sub)
+
+
+def error_list_writes():
+    """(viii): what leaves the list, to a sub that may be kept or not and to sub 0, every size and none told; and what clears it."""
+    zero, one, high = bytes(4), b"\x01\x00\x00\x00", b"\x00\x01\x00\x00"
+    leave = [frame_line(command, 0x1003, sub) for command in (0x23, 0x2F, 0x22) for sub in (1, 2, 8, 9)]
+    leave += [frame_line(command, 0x1003, 0, data) for command in (0x23, 0x27, 0x2B) for data in (zero, one)]
+    leave += [frame_line(command, 0x1003, 0, data) for command in (0x2F, 0x22) for data in (one, b"\xff" * 4)]
+    clear = [frame_line(command, 0x1003, 0, data) for command in (0x2F, 0x22) for data in (zero, high)]
+    return leave, clear
+
+
+def walk_error_list():
+    """(viii): what fills the list, what is answered of it, and what clears it."""
+
+    def ticks(*flagged):
+        """The inputs that are named go out, or stay out; the others are well inside."""
+        for inputs in flagged:
+            yield tick_line([6000 if n in inputs else 2500 for n in (1, 2, 3, 4)])
+
+    def listed(*flagged):
+        yield from ticks(*flagged)
+        yield from read_error_list()
+
+    for n in (1, 2, 3, 4):
+        yield frame_line(0x2B, 0x2112, n)
+    yield from read_error_list()  # no flagging yet: 1003h:1 is not there
+    leave, clear = error_list_writes()
+    yield from leave + clear  # an empty list is cleared too
+    yield from listed({2})  # one; written to where it is kept and where none is
+    yield from leave
+    yield from listed({2}, {2})  # a flag that stays enters nothing
+    yield from listed({2, 3, 1})  # two on one tick, while a third stays
+    yield from listed(set())  # an entry stays when its input clears
+    yield from listed({1, 2, 3, 4})  # four on one tick: seven
+    for n in (3, 1, 4):  # eight, nine and ten
+        yield from listed(set(), {n})
+    yield from leave
+    yield clear[0]  # cleared while flagged: 1001h stays, and the flag enters nothing
+    yield frame_line(0x40, 0x1001, 0)
+    yield from listed({4}, {4})
+    yield from listed(set(), {4})  # flagged, cleared and flagged again
+    yield from listed({4, 1})
+    yield clear[3]  # by 22h: one byte counts
+    yield from listed({4, 1}, set())
+    for n in (1, 2, 3, 4):
+        yield frame_line(0x2B, 0x2112, n, struct.pack("<I", 1000))
+
+
 def walk(unit):
     yield from walk_digits()
     yield from walk_names(unit.names)
+    yield from walk_error_list()
     yield from walk_refusals()
     yield from walk_chains(unit.names)
     yield from BAD_LINES

@@ -29,7 +29,7 @@ extern "C" {
 #endif
 
 /* How many words a unit has. */
-#define VALVE_UNIT 716
+#define VALVE_UNIT 725
 
 /* Makes the unit a fresh one: every entry at its default, nothing remembered. What was in the array does not matter. */
 void valve_start(uint32_t *unit);

@@ -14,7 +14,7 @@ use mir.Syntax.{w16}
 use mir.Val.{SFits}
 use Rattle.numbers.specs.Order.{below}
 use Rattle.numbers.proofs.Orders.{below-is-lt}
-use Rattle.dictionary.specs.Names.{slot-of, writable}
+use Rattle.dictionary.specs.Names.{slot-of, received-to}
 use Rattle.dictionary.specs.Unit.{ramps-at, ramp-count-at, ramp-start-at, ramp-rising-at, ramp-fv1-at, ramp-fv2-at, ramp-used-at, unit-size}
 use Rattle.dictionary.proofs.naming.NameLaws.{counted}
 use Rattle.output.specs.Output.{driven}
@@ -38,7 +38,7 @@ use Rattle.controller.proofs.Turns.{ramp, shown, last-shown, remembered
 
 -- ---- the configuration of an output, where the words of the configuration are the same
 
-module _ (u v : List ℕ) (alike : (slot : ℕ) → slot < writable → getD u slot 0 ≡ getD v slot 0) (k : ℕ) (h : k < 4) where
+module _ (u v : List ℕ) (alike : (slot : ℕ) → slot < received-to → getD u slot 0 ≡ getD v slot 0) (k : ℕ) (h : k < 4) where
   word : (index : ℕ) {slot : ℕ} → stretch index 1 4 slot ≡ has index → slot + 4 ≤ 611 → getD u (slot-of index (k + 1)) 0 ≡ getD v (slot-of index (k + 1)) 0
   word index e l = alike (slot-of index (k + 1)) (omega (arith, array index e k h, counted))
 
@@ -108,7 +108,7 @@ module _ (samples : List ℤ) (unit : List ℕ) (size : length unit ≡ unit-siz
     ordered : whole (ticked samples unit) 0x7321 (k + 1) <ℤ whole (ticked samples unit) 0x7323 (k + 1)
     unfolding whole entry has
     ordered =
-        let same : (slot : ℕ) → slot < writable → getD (ticked samples unit) slot 0 ≡ getD unit slot 0 = λ slot l. words-kept samples unit slot (before l) in
+        let same : (slot : ℕ) → slot < received-to → getD (ticked samples unit) slot 0 ≡ getD unit slot 0 = λ slot l. words-kept samples unit slot (before l) in
         rw (word (ticked samples unit) unit same k h 0x7321 refl (lit≤ tt), word (ticked samples unit) unit same k h 0x7323 refl (lit≤ tt)) (below-is-lt _ _ order)
 
     settled : Settled (settings (ticked samples unit) (k + 1))

@@ -1,7 +1,8 @@
 -- What a turn leaves alone: the word at a slot that it does not set.
 -- Assumes nothing.
 use Prim.Native.Nat.{ℕ, zero, suc, _+_, _-_, _<_, _≤_}
-use mathlib.Core.List.{List}
+use mathlib.Core.Bool.{Bool}
+use mathlib.Core.List.{List, _∷_}
 use mathlib.Core.Logic.{⊎-elim}
 use mathlib.Core.Path.{_≡_, refl, sym, ap, _∙_, subst}
 use native.Mathlib.Nat.{eq-or-lt-of-le, le-of-suc-le-suc}
@@ -10,12 +11,12 @@ use native.Mathlib.Omega.{arith}
 use borrow.Author.Tests.{lt-ltb, le-ltb}
 use lib.Dec.{eqb, ltb, lit<}
 use lib.IntN.{ℤ}
-use lib.ListN.{length, getD, set, length-set}
-use lib.Seq.{getD-set-other}
+use lib.ListN.{length, getD, set, take, length-set, length-take}
+use lib.Seq.{getD-set-other, length-sets}
 use Rattle.numbers.specs.Choice.{first}
 use Rattle.numbers.proofs.Choices.{chosen}
 use Rattle.signals.specs.declared.signal.Signal.{Signal}
-use Rattle.dictionary.specs.Names.{slot-of, writable, words}
+use Rattle.dictionary.specs.Names.{slot-of, received-to, writable, words}
 use Rattle.dictionary.specs.Unit.{runs-at, flags-at, ramps-at, ramp-count-at, ramp-start-at, ramp-rising-at, ramp-fv1-at, ramp-fv2-at, ramp-used-at}
 use Rattle.dictionary.proofs.naming.NameLaws.{counted}
 use Rattle.unit.specs.Each.{each}
@@ -23,11 +24,14 @@ use Rattle.unit.specs.Entry.{publish}
 use Rattle.unit.specs.Held.{inputs, maths, tables, logics, blocks, place, lay, held, at-row}
 use Rattle.unit.proofs.Each.{more, each-keeps}
 use Rattle.unit.proofs.HeldLaws.{laid-length, laid-other}
-use Rattle.unit.proofs.Slots.{has, have, array, var, table-value, fixed-constant}
+use Rattle.unit.proofs.Slots.{has, have, array, var, table-value, fixed-constant, error-slots}
 use Rattle.math.specs.Maths.{mathTurn}
 use Rattle.table.specs.Tables.{of-table, tableTurn}
 use Rattle.logic.specs.Logics.{logicTurn}
+use Rattle.input.specs.Errors.{error, eight, entered, flagging, noted}
 use Rattle.input.specs.Inputs.{remember, inputTurn}
+use Rattle.input.specs.declared.Memory.{Memory}
+use Rattle.input.proofs.ErrorLaws.{sets-keeps}
 use Rattle.output.specs.Outputs as output
 use Rattle.output.specs.Outputs.{outputTurn}
 use Rattle.output.specs.declared.Motion.{Motion}
@@ -51,10 +55,14 @@ pub data Publishes : ℕ → ℕ → Type 0 where
   passed-on : (k : ℕ) → k < 2 → Publishes (logics + k) (slot-of 0x4020 (k + 1))
   commanded : (k : ℕ) → k < 4 → Publishes (blocks + k) (slot-of 0x7330 (k + 1))
 
--- 5010h:1-2 are the last of the dictionary's words
-pub fixed-last : slot-of 0x5010 1 + 2 ≡ words
+-- 5010h:1-2 and 1003h:1-8 are the last of the dictionary's words
+pub fixed-last : (slot-of 0x5010 1 + 2 ≡ slot-of 0x1003 1) × (slot-of 0x1003 1 + 8 ≡ words)
 unfolding has
-fixed-last = omega (arith, fixed-constant refl 1 (lit< tt) (lit< tt), counted .2)
+fixed-last = (omega (arith, fixed-constant refl 1 (lit< tt) (lit< tt), error-slots), omega (arith, error-slots, counted .2))
+
+-- 1003h:0 is the last that can be written
+pub kept-last : slot-of 0x1003 0 ≡ received-to
+kept-last = error-slots .0 ∙ sym (counted .4)
 
 pub register-first : slot-of 0x1001 0 ≡ writable
 unfolding has
@@ -90,6 +98,10 @@ stands (commanded k h) = behind (23 + k) (omega (arith, array 0x7330 refl k h, r
 abbrev pub Clear : ℕ → ℕ → ℕ → Type 0
 Clear slot kind n = (slot ≡ place (kind + (n - 1)) → ⊥) × (slot ≡ place (kind + (n - 1)) + 1 → ⊥)
 
+-- a slot that is no part of the error list
+abbrev pub Unlisted : ℕ → Type 0
+Unlisted slot = (slot ≡ slot-of 0x1003 0 → ⊥) × (slot-of 0x1003 1 ≤ slot → slot < slot-of 0x1003 1 + 8 → ⊥)
+
 -- ---- one set after the other
 
 module _ {slot : ℕ} where
@@ -113,6 +125,20 @@ module _ {slot : ℕ} where
   pub publish-keeps : (u : List ℕ) (index sub word : ℕ) → (slot ≡ slot-of index sub → ⊥) → Kept slot u (publish u index sub word)
   unfolding publish
   publish-keeps u index sub word = set-keeps u (slot-of index sub) word
+
+  pub noted-keeps : (u : List ℕ) (n : ℕ) (was is : Bool) → Unlisted slot → Kept slot u (noted u n was is)
+  unfolding noted entered
+  noted-keeps u n was is clear =
+      chosen (Kept slot u) (flagging was is) _ _
+      (λ e. let ws = error n ∷ take 7 (eight u) in
+      joined
+      (record { word = sets-keeps ws u (slot-of 0x1003 1) slot (λ low high. clear .1 low (omega (arith, length-take 7 (eight u)))); size = length-sets u (slot-of 0x1003 1) ws })
+      (publish-keeps _ 0x1003 0 _ (clear .0)))
+      (λ e. same)
+
+  pub remember-keeps : (u : List ℕ) (n : ℕ) (m : Memory) → (slot ≡ runs-at + (n - 1) → ⊥) → (slot ≡ flags-at + (n - 1) → ⊥) → Kept slot u (remember u n m)
+  unfolding remember
+  remember-keeps u n m run flag = joined (set-keeps u (runs-at + (n - 1)) _ run) (set-keeps _ (flags-at + (n - 1)) _ flag)
 
   pub register-keeps : (slot ≡ slot-of 0x1001 0 → ⊥) → (u : List ℕ) → Kept slot u (registered u)
   unfolding registered
@@ -148,25 +174,28 @@ module _ {slot : ℕ} where
           (joined (publish-keeps _ 0x7330 (k + 1) _ other) (set-keeps _ (ramp-count-at + (k + 1 - 1)) _ (λ e. others 0 (lit< tt) (omega arith))))
 
     pub input-keeps : (slot ≡ slot-of 0x7100 (k + 1) → ⊥) → (slot ≡ slot-of 0x7130 (k + 1) → ⊥) → Clear slot inputs (k + 1)
-        → (slot ≡ runs-at + k → ⊥) × (slot ≡ flags-at + k → ⊥) → (sample : ℤ) (u : List ℕ) → Kept slot u (inputTurn sample (k + 1) u)
-    unfolding inputTurn remember
-    input-keeps other another clear memory sample u =
+        → (slot ≡ runs-at + k → ⊥) × (slot ≡ flags-at + k → ⊥) → Unlisted slot → (sample : ℤ) (u : List ℕ) → Kept slot u (inputTurn sample (k + 1) u)
+    unfolding inputTurn
+    input-keeps other another clear memory unlisted sample u =
         joined (publish-keeps u 0x7100 (k + 1) _ other)
         (joined (publish-keeps _ 0x7130 (k + 1) _ another)
         (joined (lay-keeps _ inputs (k + 1) _ clear)
-        (joined (set-keeps _ (runs-at + (k + 1 - 1)) _ (λ e. memory .0 (omega arith)))
-        (set-keeps _ (flags-at + (k + 1 - 1)) _ (λ e. memory .1 (omega arith))))))
+        (joined (noted-keeps _ (k + 1) _ _ unlisted)
+        (remember-keeps _ (k + 1) _ (λ e. memory .0 (omega arith)) (λ e. memory .1 (omega arith))))))
 
--- ---- a slot that only one block of a phase touches: after the phase it is as that block's own turn left it
+pub noted-length : (u : List ℕ) (n : ℕ) (was is : Bool) → length (noted u n was is) ≡ length u
+noted-length u n was is = noted-keeps {slot = words} u n was is ((λ e. omega (arith, kept-last, counted), λ low high. omega (arith, fixed-last))) .size
 
-module _ {slot : ℕ} (turn : ℕ → List ℕ → List ℕ) (count k : ℕ) (others : (j : ℕ) → j < count → (j ≡ k → ⊥) → (u : List ℕ) → Kept slot u (turn (j + 1) u)) (u : List ℕ) where
+-- ---- a slot that no later block of a phase touches: after the phase it is as a block's own turn left it
+
+module _ {slot : ℕ} (turn : ℕ → List ℕ → List ℕ) (count k : ℕ) (others : (j : ℕ) → k < j → j < count → (u : List ℕ) → Kept slot u (turn (j + 1) u)) (u : List ℕ) where
   pub own-turn : (m : ℕ) → k < m → m ≤ count → Kept slot (turn (k + 1) (each k turn u)) (each m turn u)
   unfolding each
   own-turn zero h l = absurd (omega arith)
   own-turn (suc m) h l =
       ⊎-elim
       (λ e. subst (λ (v : List ℕ). Kept slot (turn (k + 1) (each k turn u)) v) (sym (more turn u k) ∙ ap (λ (j : ℕ). each j turn u) (add-one k ∙ ap suc e)) same)
-      (λ g. joined (own-turn m g (omega arith)) (rw (add-one m) at (others m (omega arith) (λ e. omega arith) (each m turn u))))
+      (λ g. joined (own-turn m g (omega arith)) (rw (add-one m) at (others m g (omega arith) (each m turn u))))
       (eq-or-lt-of-le (le-of-suc-le-suc h))
 
 -- ---- the two words of a signal

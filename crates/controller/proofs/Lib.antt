@@ -1,5 +1,6 @@
 pub mod Commands
 pub mod Kept
+pub mod Listed
 pub mod Made
 pub mod Numbers
 pub mod Off

@@ -11,7 +11,7 @@ use lib.ListN.{length, getD, set, take, drop, length-set, length-take, length-dr
 use lib.Seq.{getD-set-same, getD-set-other, ext-getD, getD-take, getD-drop}
 use Rattle.numbers.specs.Choice.{first}
 use Rattle.signals.specs.declared.signal.Signal.{Signal}
-use Rattle.dictionary.specs.Names.{slot-of, writable}
+use Rattle.dictionary.specs.Names.{slot-of, received-to}
 use Rattle.dictionary.specs.Unit.{runs-at, flags-at, unit-size}
 use Rattle.dictionary.proofs.naming.NameLaws.{counted}
 use Rattle.math.specs.Math.{combined}
@@ -29,6 +29,7 @@ use Rattle.controller.specs.Tick.{ticked}
 use Rattle.controller.specs.Saw.{Saw}
 use Rattle.controller.specs.TickLaws.{before}
 use Rattle.controller.specs.Turns.{at-turn, seen, operandSeen}
+use Rattle.controller.proofs.Kept.{noted-length}
 use Rattle.controller.proofs.Numbers.{Rising}
 use Rattle.controller.proofs.Seen.{alike-after, sourced-by}
 use Rattle.controller.proofs.Turns.{run, flag, remembered, last-remembered, input-turn}
@@ -55,13 +56,13 @@ memory-back u k m h size =
       flag-back (m .flagged),
     )
 
-published-twice : (u : List ℕ) (a b c d e f kind n : ℕ) (s : Signal) → length (lay (publish (publish u a b c) d e f) kind n s) ≡ length u
+pub published-twice : (u : List ℕ) (a b c d e f kind n : ℕ) (s : Signal) → length (lay (publish (publish u a b c) d e f) kind n s) ≡ length u
 unfolding lay
 published-twice u a b c d e f kind n s = laid-length _ (kind + (n - 1)) s ∙ published-length _ d e f ∙ published-length u a b c
 
 module _ (samples : List ℤ) (unit : List ℕ) where
   -- a word of the configuration at a turn and after the tick
-  pub config : (r : ℕ) → r ≤ 20 → (index sub : ℕ) → slot-of index sub < writable → entry (at-turn samples unit r) index sub ≡ entry (ticked samples unit) index sub
+  pub config : (r : ℕ) → r ≤ 20 → (index sub : ℕ) → slot-of index sub < received-to → entry (at-turn samples unit r) index sub ≡ entry (ticked samples unit) index sub
   unfolding entry
   config r h index sub l = alike-after samples unit r h (slot-of index sub) (before l)
 
@@ -69,7 +70,7 @@ module _ (samples : List ℤ) (unit : List ℕ) where
     input-word : (index : ℕ) {slot : ℕ} → stretch index 1 4 slot ≡ has index → slot + 4 ≤ 611 → entry (at-turn samples unit (inputs + k)) index (k + 1) ≡ entry (ticked samples unit) index (k + 1)
     input-word index e l = config (inputs + k) (omega arith) index (k + 1) (omega (arith, array index e k h, counted))
 
-    settings-saw : settings (at-turn samples unit (inputs + k)) (k + 1) ≡ settings (ticked samples unit) (k + 1)
+    pub settings-saw : settings (at-turn samples unit (inputs + k)) (k + 1) ≡ settings (ticked samples unit) (k + 1)
     unfolding settings whole switched time byte has
     settings-saw =
         rw (
@@ -85,7 +86,7 @@ module _ (samples : List ℤ) (unit : List ℕ) where
         )
 
     -- the memory at the input's turn is the last tick's
-    last-memory : memory (at-turn samples unit (inputs + k)) (k + 1) ≡ memory unit (k + 1)
+    pub last-memory : memory (at-turn samples unit (inputs + k)) (k + 1) ≡ memory unit (k + 1)
     unfolding memory
     last-memory =
         let e : k + 1 - 1 ≡ k = omega arith in
@@ -97,11 +98,11 @@ module _ (samples : List ℤ) (unit : List ℕ) where
         let e : k + 1 - 1 ≡ k = omega arith in
         rw (e, remembered samples unit (run k h) (omega arith), remembered samples unit (flag k h) (omega arith), input-turn samples k h)
 
-    memory-saw : memory (ticked samples unit) (k + 1) ≡ kept (settings (ticked samples unit) (k + 1)) (memory unit (k + 1)) (getD samples k (pos 0))
+    pub memory-saw : memory (ticked samples unit) (k + 1) ≡ kept (settings (ticked samples unit) (k + 1)) (memory unit (k + 1)) (getD samples k (pos 0))
     unfolding inputTurn sensed
     memory-saw =
         own-memory
-        ∙ memory-back _ k _ h (published-twice _ _ _ _ _ _ _ _ _ _ ∙ sized samples unit size (inputs + k) (omega arith))
+        ∙ memory-back _ k _ h (noted-length _ _ _ _ ∙ published-twice _ _ _ _ _ _ _ _ _ _ ∙ sized samples unit size (inputs + k) (omega arith))
         ∙ rw (settings-saw, last-memory)
 
     input-saw : held (ticked samples unit) inputs (k + 1) ≡ signalOf (memory (ticked samples unit) (k + 1) .flagged) (process (settings (ticked samples unit) (k + 1)) (getD samples k (pos 0)))

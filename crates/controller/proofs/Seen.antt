@@ -40,7 +40,7 @@ unfolding has
 constant-unpublished n low high = by (ltb n 3) refl where
   by : (b : Bool) → ltb n 3 ≡ b → Unpublished (slot-of 0x5010 n)
   by true e = let h = ltb-true n 3 e in
-      after {slot = slot-of 0x5010 n} (omega (arith, fixed-constant refl n low h, fixed-last, counted)) (omega (arith, fixed-constant refl n low h, counted))
+      after {slot = slot-of 0x5010 n} (omega (arith, fixed-constant refl n low h, fixed-last, counted)) (omega (arith, fixed-constant refl n low h, fixed-last, counted))
   by false e = let h = ltb-false n 3 e in before {slot = slot-of 0x5010 n} (omega (arith, constant refl n h high, counted))
 
 module _ (u v : List ℕ) (alike : (slot : ℕ) → Unpublished slot → getD u slot 0 ≡ getD v slot 0) (source number : ℕ) where

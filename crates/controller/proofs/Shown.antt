@@ -22,6 +22,8 @@ use Rattle.unit.specs.Entry.{entry, publish}
 use Rattle.unit.specs.Held.{inputs, maths, tables, logics, place, held}
 use Rattle.unit.proofs.Slots.{has, array}
 use Rattle.unit.specs.Sources.{sourced}
+use Rattle.dictionary.proofs.naming.NameLaws.{counted}
+use Rattle.input.specs.Errors.{noted}
 use Rattle.input.specs.Inputs.{settings, memory, remember, inputTurn}
 use Rattle.math.specs.Maths.{mathTurn}
 use Rattle.table.specs.Tables.{of-table, tableTurn}
@@ -30,7 +32,7 @@ use Rattle.logic.specs.Logics as logic
 use Rattle.controller.specs.Tick.{ticked}
 use Rattle.controller.specs.Shown.{Shown}
 use Rattle.controller.specs.Turns.{turnOf, at-turn}
-use Rattle.controller.proofs.Kept.{Kept, Publishes, sampled, processed, calculated, looked-up, selected, passed-on, stands, fixed-last, Clear, joined, set-keeps, lay-keeps, publish-keeps}
+use Rattle.controller.proofs.Kept.{Kept, Publishes, sampled, processed, calculated, looked-up, selected, passed-on, stands, fixed-last, kept-last, register-first, Clear, joined, noted-keeps, remember-keeps, lay-keeps, publish-keeps}
 use Rattle.controller.proofs.Numbers.{Rising}
 use Rattle.controller.proofs.Seen.{logics-see}
 use Rattle.controller.proofs.Made.{published-length, input-made, math-made, table-made, logic-made}
@@ -44,11 +46,12 @@ module _ {row at : ℕ} (p : Publishes row at) where
   unfolding place signals-at
   clear kind n = let mine = stands p in (λ e. omega (arith, fixed-last), λ e. omega (arith, fixed-last))
 
-  -- an input's run and flag stand behind it
-  remembers : (u : List ℕ) (n : ℕ) (m : Memory) → Kept at u (remember u n m)
-  unfolding remember flags-at runs-at signals-at
-  remembers u n m = let mine = stands p in
-      joined (set-keeps u (runs-at + (n - 1)) _ (λ e. omega (arith, fixed-last))) (set-keeps _ (flags-at + (n - 1)) _ (λ e. omega (arith, fixed-last)))
+  -- the error list, an input's run and flag stand elsewhere
+  remembers : (u : List ℕ) (n : ℕ) (was is : Bool) (m : Memory) → Kept at u (remember (noted u n was is) n m)
+  unfolding flags-at runs-at signals-at
+  remembers u n was is m = let mine = stands p in
+      joined (noted-keeps u n was is (λ e. omega (arith, kept-last, register-first, counted), λ low high. omega (arith, fixed-last)))
+      (remember-keeps _ n m (λ e. omega (arith, fixed-last)) (λ e. omega (arith, fixed-last)))
 
   there : (u : List ℕ) (word : ℕ) → length u ≡ unit-size → getD (set u at word) at 0 ≡ word
   unfolding unit-size flags-at runs-at signals-at
@@ -75,7 +78,7 @@ module _ (samples : List ℤ) (unit : List ℕ) (size : length unit ≡ unit-siz
       let u = at-turn samples unit (inputs + k) in
       let sample = getD samples k (pos 0) in
       by-turn p samples unit (omega arith) (input-turn samples k h)
-      ∙ remembers p _ (k + 1) _ .word
+      ∙ remembers p _ (k + 1) _ _ _ .word
       ∙ lay-keeps _ inputs (k + 1) _ (clear p inputs (k + 1)) .word
       ∙ publish-keeps (publish u 0x7100 (k + 1) (pattern16 sample)) 0x7130 (k + 1) (pattern16 (sensed (settings u (k + 1)) (memory u (k + 1)) sample .reads)) other .word
       ∙ there p u (pattern16 sample) (sized samples unit size (inputs + k) (omega arith))
@@ -86,7 +89,7 @@ module _ (samples : List ℤ) (unit : List ℕ) (size : length unit ≡ unit-siz
       let p = processed k h in
       let u = at-turn samples unit (inputs + k) in
       by-turn p samples unit (omega arith) (input-turn samples k h)
-      ∙ remembers p _ (k + 1) _ .word
+      ∙ remembers p _ (k + 1) _ _ _ .word
       ∙ lay-keeps _ inputs (k + 1) _ (clear p inputs (k + 1)) .word
       ∙ there p (publish u 0x7100 (k + 1) (pattern16 (getD samples k (pos 0)))) _ (published-length u 0x7100 (k + 1) _ ∙ sized samples unit size (inputs + k) (omega arith))
       ∙ ap pattern16 (told _ _)

@@ -10,7 +10,7 @@ use lib.IntN.{ℤ}
 use lib.ListN.{length}
 use lib.Seq.{getD-set-same}
 use Rattle.numbers.specs.Choice.{first}
-use Rattle.dictionary.specs.Names.{slot-of, words}
+use Rattle.dictionary.specs.Names.{slot-of, configured, words}
 use Rattle.dictionary.specs.Unit.{signals-at, runs-at, flags-at, ramps-at, unit-size}
 use Rattle.dictionary.proofs.naming.NameLaws.{counted}
 use Rattle.unit.specs.Entry.{entry, publish}
@@ -20,26 +20,39 @@ use Rattle.controller.specs.Register.{anyFlagged, registered}
 use Rattle.controller.specs.Tick.{ticked}
 use Rattle.controller.specs.TickLaws.{Unpublished, before, after, Words-kept, Register-told, Flags-unwritten, Register-unwritten}
 use Rattle.controller.specs.Turns.{at-turn}
-use Rattle.controller.proofs.Kept.{Kept, Publishes, stands, fixed-last, register-first, set-keeps, register-keeps}
+use Rattle.controller.proofs.Kept.{Kept, Publishes, Unlisted, stands, fixed-last, kept-last, register-first, set-keeps, register-keeps}
 use Rattle.controller.proofs.Turns.{Spared, until, to-last, all-turns}
 
 -- ---- the words that no block publishes
 
 in-words : {slot : ℕ} → Unpublished slot → slot < words
 in-words (before h) = omega (arith, counted)
-in-words (after h g) = g
+in-words (after h g) = omega (arith, fixed-last)
 
 no-register : {slot : ℕ} → Unpublished slot → slot ≡ slot-of 0x1001 0 → ⊥
-no-register (before h) e = omega (arith, register-first)
+no-register (before h) e = omega (arith, register-first, counted)
 no-register (after h g) e = omega (arith, register-first, fixed-last, counted)
 
 apart : {slot : ℕ} → Unpublished slot → (row at : ℕ) → Publishes row at → slot ≡ at → ⊥
-apart (before h) row at p e = omega (arith, stands p, register-first)
+apart (before h) row at p e = omega (arith, stands p, register-first, counted)
 apart (after h g) row at p e = omega (arith, stands p)
+
+unlisted : {slot : ℕ} → Unpublished slot → Unlisted slot
+unlisted (before h) = (λ e. omega (arith, kept-last), λ low high. omega (arith, fixed-last, counted))
+unlisted (after h g) = (λ e. omega (arith, kept-last, fixed-last, counted), λ low high. omega arith)
 
 spared : {slot : ℕ} → Unpublished slot → (j : ℕ) → Spared slot j
 unfolding place signals-at runs-at flags-at ramps-at
-spared u j = let h = in-words u in record { unpublished = apart u j; memory = λ l. (λ e. omega arith, λ e. omega arith); signal = λ l. (λ e. omega arith, λ e. omega arith); ramp = λ l q w g e. omega arith }
+spared u j = let h = in-words u in record {
+      unpublished = apart u j;
+      memory = λ l. (λ e. omega arith, λ e. omega arith);
+      signal = λ l. (λ e. omega arith, λ e. omega arith);
+      ramp = λ l q w g e. omega arith;
+      unlisted = λ l. unlisted u;
+    }
+
+pub configured-kept : (slot : ℕ) → slot < configured → Unpublished slot
+configured-kept slot h = before {slot = slot} (omega (arith, counted))
 
 pub first-word : Unpublished 0
 first-word = before {slot = 0} (omega (arith, counted))

@@ -24,7 +24,7 @@ use Rattle.output.proofs.MotionLaws.{ramp-word}
 use Rattle.controller.specs.Register.{registered}
 use Rattle.controller.specs.Tick.{ticked}
 use Rattle.controller.specs.Turns.{turnOf, at-turn, Seen-by}
-use Rattle.controller.proofs.Kept.{Kept, Publishes, sampled, processed, calculated, looked-up, selected, passed-on, commanded, owner, stands, fixed-last, register-first, Clear, same, joined, all-keep, register-keeps, math-keeps, table-keeps, logic-keeps, output-keeps, input-keeps, own-turn, Of-row, row-kept}
+use Rattle.controller.proofs.Kept.{Kept, Publishes, sampled, processed, calculated, looked-up, selected, passed-on, commanded, owner, stands, fixed-last, kept-last, register-first, Clear, Unlisted, same, joined, all-keep, register-keeps, math-keeps, table-keeps, logic-keeps, output-keeps, input-keeps, own-turn, Of-row, row-kept}
 
 -- a slot that turn j + 1 does not set
 pub record Spared (slot j : ℕ) : Type 0 where
@@ -32,6 +32,7 @@ pub record Spared (slot j : ℕ) : Type 0 where
   pub memory : j < 4 → (slot ≡ runs-at + j → ⊥) × (slot ≡ flags-at + j → ⊥)
   pub signal : j < 16 → (slot ≡ place j → ⊥) × (slot ≡ place j + 1 → ⊥)
   pub ramp : 16 ≤ j → j < 20 → (w : ℕ) → w < 6 → slot ≡ ramp-word (j - 16) w → ⊥
+  pub unlisted : j < 4 → Unlisted slot
 
 module _ (samples : List ℤ) where
   pub turn-keeps : {slot : ℕ} (j : ℕ) → j < 20 → Spared slot j → (u : List ℕ) → Kept slot u (turnOf samples (j + 1) u)
@@ -39,7 +40,7 @@ module _ (samples : List ℤ) where
   turn-keeps {slot} j h s u =
       chosen (Kept slot u) (ltb (j + 1) 5) _ _
       (λ e. let l = ltb-true (j + 1) 5 e in let is : 0 + j ≡ j = omega arith in
-      input-keeps j (s .unpublished _ (rw is at (sampled j (omega arith)))) (s .unpublished _ (rw is at (processed j (omega arith)))) (own inputs j (omega arith) (omega arith)) (s .memory (omega arith)) _ u)
+      input-keeps j (s .unpublished _ (rw is at (sampled j (omega arith)))) (s .unpublished _ (rw is at (processed j (omega arith)))) (own inputs j (omega arith) (omega arith)) (s .memory (omega arith)) (s .unlisted (omega arith)) _ u)
       (λ e. let g = ltb-false (j + 1) 5 e in chosen (Kept slot u) (ltb (j + 1) 9) _ _
       (λ e. let l = ltb-true (j + 1) 9 e in let is : 4 + (j - 4) ≡ j = omega arith in let k : j + 1 - 4 ≡ j - 4 + 1 = omega arith in
       rw k (math-keeps (j - 4) (s .unpublished _ (rw is at (calculated (j - 4) (omega arith)))) (own maths (j - 4) (omega arith) (omega arith)) u))
@@ -61,10 +62,14 @@ module _ (samples : List ℤ) where
     unfolding at-turn
     until r h spared = all-keep r (turnOf samples) (λ k l. turn-keeps k (omega arith) (spared k l)) same
 
-    -- a slot that only turn k + 1 sets is, once it is over, as it left it
-    pub since : {slot : ℕ} (k r : ℕ) → k < r → r ≤ 20 → ((j : ℕ) → j < 20 → (j ≡ k → ⊥) → Spared slot j) → Kept slot (turnOf samples (k + 1) (at-turn samples unit k)) (at-turn samples unit r)
+    -- a slot that no turn behind turn k + 1 sets is as it left it
+    pub from-then : {slot : ℕ} (k r : ℕ) → k < r → r ≤ 20 → ((j : ℕ) → k < j → j < 20 → Spared slot j) → Kept slot (turnOf samples (k + 1) (at-turn samples unit k)) (at-turn samples unit r)
     unfolding at-turn
-    since k r h l spared = own-turn (turnOf samples) 20 k (λ j g other. turn-keeps j g (spared j g other)) unit r h l
+    from-then k r h l spared = own-turn (turnOf samples) 20 k (λ j later g. turn-keeps j g (spared j later g)) unit r h l
+
+    -- so is a slot that only turn k + 1 sets
+    pub since : {slot : ℕ} (k r : ℕ) → k < r → r ≤ 20 → ((j : ℕ) → j < 20 → (j ≡ k → ⊥) → Spared slot j) → Kept slot (turnOf samples (k + 1) (at-turn samples unit k)) (at-turn samples unit r)
+    since k r h l spared = from-then k r h l (λ j later g. spared j g (λ e. omega arith))
 
     pub all-turns : registered (at-turn samples unit 20) ≡ ticked samples unit
     unfolding at-turn turnOf each ticked first
@@ -83,6 +88,7 @@ row-spared h r j other =
       memory = λ l. (λ e. omega (arith, r .high), λ e. omega (arith, r .high));
       signal = λ l. (λ e. other (omega (arith, r .low, r .high)), λ e. other (omega (arith, r .low, r .high)));
       ramp = λ l q w g e. omega (arith, r .high);
+      unlisted = λ l. (λ e. omega (arith, r .low, kept-last, counted), λ low high. omega (arith, r .low, fixed-last));
     }
 
 row-last : {row slot : ℕ} → Of-row row slot → slot ≡ slot-of 0x1001 0 → ⊥
@@ -114,6 +120,7 @@ own-only p j other =
       memory = λ l. (λ e. omega (arith, fixed-last), λ e. omega (arith, fixed-last));
       signal = λ l. (λ e. omega (arith, fixed-last), λ e. omega (arith, fixed-last));
       ramp = λ l q w g e. omega (arith, fixed-last);
+      unlisted = λ l. (λ e. omega (arith, kept-last, register-first, counted), λ low high. omega (arith, fixed-last));
     }
 
 module _ (samples : List ℤ) (unit : List ℕ) {q at : ℕ} (p : Publishes q at) (h : q < 20) where
@@ -139,6 +146,7 @@ memory-spared (run k h) j other =
       memory = λ l. (λ e. other (omega arith), λ e. omega arith);
       signal = λ l. (λ e. omega arith, λ e. omega arith);
       ramp = λ l q w g e. omega arith;
+      unlisted = λ l. (λ e. omega (arith, kept-last, counted), λ low high. omega (arith, fixed-last));
     }
 memory-spared (flag k h) j other =
     record {
@@ -146,6 +154,7 @@ memory-spared (flag k h) j other =
       memory = λ l. (λ e. omega arith, λ e. other (omega arith));
       signal = λ l. (λ e. omega arith, λ e. omega arith);
       ramp = λ l q w g e. omega arith;
+      unlisted = λ l. (λ e. omega (arith, kept-last, counted), λ low high. omega (arith, fixed-last));
     }
 memory-spared (ramp k w h g) j other =
     record {
@@ -153,6 +162,7 @@ memory-spared (ramp k w h g) j other =
       memory = λ l. (λ e. omega arith, λ e. omega arith);
       signal = λ l. (λ e. omega arith, λ e. omega arith);
       ramp = λ l q v f e. other (omega arith);
+      unlisted = λ l. (λ e. omega (arith, kept-last, counted), λ low high. omega (arith, fixed-last));
     }
 
 not-register : {row at : ℕ} → Remembers row at → at ≡ slot-of 0x1001 0 → ⊥

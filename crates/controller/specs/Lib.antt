@@ -1,4 +1,5 @@
 pub mod Commands
+pub mod Listed
 pub mod Off
 pub mod Register
 pub mod Saw

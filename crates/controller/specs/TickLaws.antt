@@ -6,16 +6,16 @@ use mathlib.Core.Path.{_≡_}
 use lib.IntN.{ℤ}
 use lib.ListN.{length, getD, set}
 use Rattle.numbers.specs.Choice.{first}
-use Rattle.dictionary.specs.Names.{slot-of, writable, words}
+use Rattle.dictionary.specs.Names.{slot-of, received-to, writable}
 use Rattle.dictionary.specs.Unit.{unit-size}
 use Rattle.unit.specs.Entry.{entry}
 use Rattle.controller.specs.Register.{anyFlagged}
 use Rattle.controller.specs.Tick.{ticked}
 
--- the words that no block publishes: the configuration and 2500h; 5010h:1-2
+-- the words that no block publishes: the configuration and 2500h; 5010h:1-2. 1003h:0 can be written too, but ticks change it
 pub data Unpublished : ℕ → Type 0 where
-  before : {slot : ℕ} → slot < writable → Unpublished slot
-  after : {slot : ℕ} → slot-of 0x5010 1 ≤ slot → slot < words → Unpublished slot
+  before : {slot : ℕ} → slot < received-to → Unpublished slot
+  after : {slot : ℕ} → slot-of 0x5010 1 ≤ slot → slot < slot-of 0x1003 1 → Unpublished slot
 
 -- a tick leaves every one of them as it was
 abbrev pub Words-kept : Type 0

@@ -6,7 +6,7 @@ use mathlib.Core.List.{List, [], _∷_, _++_, map, flatMap}
 use lib.Dec.{eqb, ltb, leb}
 use lib.ListN.{length, getD}
 use Rattle.numbers.specs.Choice.{first}
-use Rattle.dictionary.specs.Rows.{Row, Value, width, configuration, tables, logics, conditions, maths, received, read-only, condition, axis-or-response, operator}
+use Rattle.dictionary.specs.Rows.{Row, Value, width, configuration, tables, logics, conditions, maths, received, cleared, read-only, condition, axis-or-response, operator}
 use Rattle.dictionary.specs.declared.types.Found.{Found}
 use Rattle.dictionary.specs.declared.types.Found.the-variants.{NoIndex, NoSub, Count, At}
 
@@ -19,10 +19,10 @@ unfoldable pub ascending : List Row → List Row
 ascending [] = []
 ascending (r ∷ rows) = insert r (ascending rows)
 
--- all rows as the slots have them: the configuration ascending, then the EC values, then what can only be read
+-- all rows as the slots have them: the configuration ascending, then the EC values, then 1003h:0, then what can only be read
 unfoldable pub rows : List Row
-unfolding configuration tables logics conditions maths received read-only ascending insert first flatMap
-rows = ascending configuration ++ received ++ read-only
+unfolding configuration tables logics conditions maths received cleared read-only ascending insert first flatMap
+rows = ascending configuration ++ received ++ cleared ++ read-only
 
 -- an entry: a name and what it holds
 pub record Entry : Type 0 where
@@ -43,14 +43,19 @@ unfoldable pub entries : List Entry
 unfolding rows entries-of entries-from condition axis-or-response operator
 entries = flatMap entries-of rows
 
--- the slots below the first number are the configuration, those below the second can be written, those below the third can be read
+-- the slots below the first number are the configuration, those below the second this or EC values, those below the third can be written,
+-- those below the fourth can be read
 unfoldable pub configured : ℕ
 unfolding configuration tables logics conditions maths received flatMap entries-of entries-from
 configured = length (flatMap entries-of configuration)
 
-unfoldable pub writable : ℕ
+unfoldable pub received-to : ℕ
 unfolding configured
-writable = configured + length (flatMap entries-of received)
+received-to = configured + length (flatMap entries-of received)
+
+unfoldable pub writable : ℕ
+unfolding received-to cleared
+writable = received-to + length (flatMap entries-of cleared)
 
 unfoldable pub words : ℕ
 unfolding entries
@@ -107,11 +112,12 @@ unfoldable pub at-sub : List Stretch → ℕ → Found
 at-sub [] sub = NoSub
 at-sub (s ∷ ss) sub = first (leb (s .from) sub && leb sub (s .to)) (At (s .slot + (sub - s .from))) (at-sub ss sub)
 
--- "For a VAR, sub 0 is the value. For an ARRAY, sub 0 is the largest sub-index": a VAR has no sub but 0
+-- "For a VAR, sub 0 is the value. For an ARRAY, sub 0 is the largest sub-index": its values begin behind sub 0.
+-- 1003h:0 is "unlike other arrays'" a value
 unfoldable pub named : List Stretch → ℕ → Found
 named [] sub = NoIndex
 named (s ∷ ss) sub =
-    first (eqb sub 0 && ltb 0 (largest (s ∷ ss))) (Count (largest (s ∷ ss))) (at-sub (s ∷ ss) sub)
+    first (eqb sub 0 && ltb 0 (s .from)) (Count (largest (s ∷ ss))) (at-sub (s ∷ ss) sub)
 
 -- what an index with a sub-index names
 unfoldable pub find : ℕ → ℕ → Found
@@ -128,3 +134,11 @@ slot-found (At slot) = slot
 unfoldable pub slot-of : ℕ → ℕ → ℕ
 unfolding find
 slot-of index sub = slot-found (find index sub)
+
+-- 1003h in a unit (document 02, viii): "a sub above the number kept gives 06090011h, in order 4"
+unfoldable pub hidden : List ℕ → ℕ → ℕ → Bool
+hidden unit index sub = eqb index 0x1003 && ltb (getD unit (slot-of 0x1003 0) 0) sub
+
+-- what a name stands for in a unit as it is now
+unfoldable pub sought : List ℕ → ℕ → ℕ → Found
+sought unit index sub = first (hidden unit index sub) NoSub (find index sub)

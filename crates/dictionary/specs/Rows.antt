@@ -6,7 +6,7 @@ use lib.IntN.{ℤ, pos, negsuc}
 use lib.Dec.{eqb}
 use Rattle.numbers.specs.Choice.{first}
 use Rattle.dictionary.specs.declared.types.Kind.{Kind}
-use Rattle.dictionary.specs.declared.types.Kind.the-variants.{Unsigned8, Integer16, Unsigned16, Real32}
+use Rattle.dictionary.specs.declared.types.Kind.the-variants.{Unsigned8, Integer16, Unsigned16, Real32, Unsigned32}
 use Rattle.dictionary.specs.declared.types.Range.{Range}
 
 -- the bytes of a type
@@ -15,6 +15,7 @@ width Unsigned8 = 1
 width Integer16 = 2
 width Unsigned16 = 2
 width Real32 = 4
+width Unsigned32 = 4
 
 -- "type low..high = default": a default is given as its pattern
 pub record Value : Type 0 where
@@ -43,6 +44,10 @@ i16 start = i16-between (negsuc 32767) (pos 32767) start
 
 abbrev pub real32 : ℕ → Value
 real32 start = record { range = record { kind = Real32; low = pos 0; high = pos 0 }; start = start }
+
+-- an UNSIGNED32 can only be read
+abbrev pub u32 : ℕ → Value
+u32 start = record { range = record { kind = Unsigned32; low = pos 0; high = pos 0 }; start = start }
 
 -- "D means UNSIGNED8 0..3 = 0"
 abbrev pub D : Value
@@ -172,7 +177,12 @@ configuration =
 unfoldable pub received : List Row
 received = array 0x2500 12 (i16 0) ∷ []
 
--- "read only 1001h (VAR u8), 7100h and 7130h:1-4, 30z7h (VAR), 4010h (u8) and 4020h:1-2, 4530h:1-4 (REAL32), 7330h:1-4 (others i16), 5010h:1 (0.0) and :2 (1.0)"
+-- 1003h:0 (document 02, viii): "Sub 0 (u8, 0 at start) is the number kept ..; unlike other arrays' it can be written"
+unfoldable pub cleared : List Row
+cleared = var 0x1003 (u8 0 255 0) ∷ []
+
+-- "read only 1001h (VAR u8), 7100h and 7130h:1-4, 30z7h (VAR), 4010h (u8) and 4020h:1-2, 4530h:1-4 (REAL32), 7330h:1-4 (others i16), 5010h:1 (0.0) and :2 (1.0)";
+-- 1003h:1-8 (document 02, viii): "the last 8 flaggings .., newest at sub 1, as DS-301 lays them out"
 unfoldable pub read-only : List Row
 read-only =
     var 0x1001 (u8 0 255 0) ∷
@@ -180,4 +190,5 @@ read-only =
     each (1 ∷ 2 ∷ 3 ∷ 4 ∷ 5 ∷ 6 ∷ []) (λ z. var (0x3007 + 0x10 * z) (i16 0) ∷ []) ++
     array 0x4010 2 (u8 0 255 0) ∷ array 0x4020 2 (i16 0) ∷
     array 0x4530 4 (real32 0) ∷ array 0x7330 4 (i16 0) ∷
-    array-by 0x5010 2 (λ sub. real32 (first (eqb sub 2) 0x3F800000 0)) ∷ []
+    array-by 0x5010 2 (λ sub. real32 (first (eqb sub 2) 0x3F800000 0)) ∷
+    array 0x1003 8 (u32 0) ∷ []

@@ -77,9 +77,9 @@ places =
     slot-of 0x6132 1 ∷ slot-of 0x6302 1 ∷ slot-of 0x6340 1 ∷ slot-of 0x7120 1 ∷
     slot-of 0x7121 1 ∷ slot-of 0x7122 1 ∷ slot-of 0x7123 1 ∷ slot-of 0x7148 1 ∷
     slot-of 0x7149 1 ∷ slot-of 0x7320 1 ∷ slot-of 0x7321 1 ∷ slot-of 0x7322 1 ∷
-    slot-of 0x7323 1 ∷ slot-of 0x7341 1 ∷ slot-of 0x2500 1 ∷ slot-of 0x1001 0 ∷
+    slot-of 0x7323 1 ∷ slot-of 0x7341 1 ∷ slot-of 0x2500 1 ∷ slot-of 0x1003 0 ∷ slot-of 0x1001 0 ∷
     slot-of 0x7100 1 ∷ slot-of 0x7130 1 ∷ slot-of 0x3017 0 ∷ slot-of 0x4010 1 ∷
-    slot-of 0x4020 1 ∷ slot-of 0x4530 1 ∷ slot-of 0x7330 1 ∷ slot-of 0x5010 1 ∷
+    slot-of 0x4020 1 ∷ slot-of 0x4530 1 ∷ slot-of 0x7330 1 ∷ slot-of 0x5010 1 ∷ slot-of 0x1003 1 ∷
     signals-at ∷ runs-at ∷ flags-at ∷
     ramp-count-at ∷ ramp-start-at ∷ ramp-rising-at ∷ ramp-fv1-at ∷ ramp-fv2-at ∷ ramp-used-at ∷ unit-size ∷
     (slot-of 0x3020 0 - slot-of 0x3010 0) ∷ (slot-of 0x4201 1 - slot-of 0x4101 1) ∷ (slot-of 0x4700 1 - slot-of 0x4600 1) ∷

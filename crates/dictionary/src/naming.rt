@@ -1,12 +1,15 @@
-// What an index with a sub-index names.
+// What an index with a sub-index names, in a unit as it is now.
 ghost use mathlib.Core.Path.{_≡_};
 ghost use Prim.Native.Nat.{_+_, _<_};
-ghost use Rattle.dictionary.specs.Names.{find, named};
+ghost use Rattle.dictionary.specs.Names.{named, sought};
 ghost use Rattle.dictionary.specs.Objects.{meant};
 use crate::objects::Object;
 use crate::objects::rows_of;
 use crate::slots::CONSTANT;
+use crate::slots::ERRORS;
+use crate::slots::ERRORS_KEPT;
 use crate::slots::FIXED;
+use crate::slots::Unit;
 use crate::types::Found;
 
 fn in_var(slot: usize, sub: u8) -> Found
@@ -46,14 +49,31 @@ fn in_constants(sub: u8) -> Found
     Found::NoSub
 }
 
-// For every index and sub.
-pub fn find(index: u16, sub: u8) -> Found
-    ensures { λ r. ⌜ r ≡ find index sub ⌝ }
+// A sub above the number kept is none.
+fn in_errors(unit: &Unit, sub: u8) -> Found
+    ensures { λ r. ⌜ r ≡ sought (now (unit .entry)) 0x1003 sub ⌝ }
+{
+    if sub == 0 {
+        return Found::At(ERRORS_KEPT);
+    }
+    if unit[ERRORS_KEPT] < sub as u32 {
+        return Found::NoSub;
+    }
+    if sub <= 8 {
+        return Found::At(ERRORS + (sub as usize - 1));
+    }
+    Found::NoSub
+}
+
+// For every unit, index and sub.
+pub fn find(unit: &Unit, index: u16, sub: u8) -> Found
+    ensures { λ r. ⌜ r ≡ sought (now (unit .entry)) index sub ⌝ }
 {
     match rows_of(index) {
         Object::Unknown => Found::NoIndex,
         Object::Var(slot) => in_var(slot, sub),
         Object::Array(slot, last) => in_array(slot, last, sub),
         Object::Constants => in_constants(sub),
+        Object::Errors => in_errors(unit, sub),
     }
 }

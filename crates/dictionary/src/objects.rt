@@ -12,14 +12,17 @@ pub enum Object {
     Array(usize, u8),
     // 5010h: subs 1 and 2 are fixed and stand among the read-only names
     Constants,
+    // 1003h: sub 0 can be written, the others are read only
+    Errors,
 }
 
-// 10xxh: the error register.
+// 10xxh: the error register and the error list.
 fn error_register(low: usize) -> Object
     requires { ⌜ low < 256 ⌝ }
     ensures { λ r. ⌜ Rows r (0x1000 + low) ⌝ }
 {
     match low {
+        0x03 => Object::Errors,
         0x01 => Object::Var(ERROR_REGISTER),
         _ => Object::Unknown,
     }

@@ -1,4 +1,5 @@
-// Where each object's words begin in a unit: the configuration ascending by index then sub, the EC values, what can only be read,
+// Where each object's words begin in a unit: the configuration ascending by index then sub, the EC values, the number of errors kept,
+// what can only be read,
 // and behind these what ticks remember and nobody can read. A place is given once, here, as a sum of what comes before it.
 ghost use mathlib.Core.Path.{_≡_};
 ghost use Rattle.dictionary.specs.Unit.{places};
@@ -137,8 +138,11 @@ pub const FAULT_FV: usize = OUTPUT_FV2 + 4;
 // The configuration ends here, after the paper's 611 entries (a chain of sums may not be longer). 2500h :1-12
 pub const EC_VALUE: usize = 611;
 
+// 1003h:0
+pub const ERRORS_KEPT: usize = EC_VALUE + 12;
+
 // What can be written ends here. 1001h; 7100h, 7130h :1-4
-pub const ERROR_REGISTER: usize = EC_VALUE + 12;
+pub const ERROR_REGISTER: usize = ERRORS_KEPT + 1;
 
 pub const SAMPLE: usize = ERROR_REGISTER + 1;
 
@@ -158,8 +162,11 @@ pub const COMMAND: usize = MATH_VALUE + 4;
 // 5010h :1-2, which are fixed
 pub const FIXED: usize = COMMAND + 4;
 
+// 1003h :1-8
+pub const ERRORS: usize = FIXED + 2;
+
 // The dictionary's words end here. The signals of inputs 1-4, math 1-4, tables 1-6 and logic 1-2, each as its kind and its number
-pub const SIGNALS: usize = FIXED + 2;
+pub const SIGNALS: usize = ERRORS + 8;
 
 // Of each input its run of out ticks, and its flag
 pub const RUNS: usize = SIGNALS + 2 * 16;
@@ -186,7 +193,7 @@ pub const UNIT: usize = RAMP_USED + 4;
 pub type Unit = [u32; UNIT];
 
 // The places are the table's slots.
-fn places() -> [usize; 82]
+fn places() -> [usize; 84]
     ensures { λ r. ⌜ r ≡ places ⌝ }
 {
     [
@@ -247,6 +254,7 @@ fn places() -> [usize; 82]
         OUTPUT_FV2,
         FAULT_FV,
         EC_VALUE,
+        ERRORS_KEPT,
         ERROR_REGISTER,
         SAMPLE,
         INPUT_PV,
@@ -256,6 +264,7 @@ fn places() -> [usize; 82]
         MATH_VALUE,
         COMMAND,
         FIXED,
+        ERRORS,
         SIGNALS,
         RUNS,
         FLAGS,

@@ -5,9 +5,10 @@ pub enum Kind {
     Integer16,
     Unsigned16,
     Real32,
+    Unsigned32,
 }
 
-// A type with its least and greatest number; a REAL32 has neither, it is finite or not.
+// A type with its least and greatest number; a REAL32 has neither, it is finite or not, and an UNSIGNED32 can only be read.
 pub struct Range {
     pub kind: Kind,
     pub low: i32,

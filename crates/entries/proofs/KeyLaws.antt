@@ -8,7 +8,7 @@ use native.Mathlib.Omega.{arith}
 use lib.Dec.{eqb, ltb}
 use lib.IntN.{ℤ, pos, negsuc, negℤ}
 use lib.Signed.{ltZ}
-use borrow.Author.Tests.{ne-eqb, le-ltb, ltb-true, ltb-false}
+use borrow.Author.Tests.{ne-eqb, eqb-true, eqb-false, le-ltb, ltb-true, ltb-false}
 use Rattle.numbers.specs.Choice.{first}
 use Rattle.numbers.specs.Order.{below}
 use Rattle.numbers.specs.Signed.{twos, signed16}
@@ -52,7 +52,7 @@ unfolding low-by first
 low-zero {role} h a =
     rw (ne-eqb role 8 (a .0 .1), ne-eqb role 13 (a .1)) at (agree-on low-by (λ r. ranged r .low) 0 17 role (pos 0) lows zero-le h)
 
--- ---- the whole range of INTEGER16 holds every word
+-- ---- the whole range of INTEGER16 holds every word, and UNSIGNED32 any
 
 twos-fits : (p : ℕ) → p < 65536 → (below (pos 32767) (twos p) ≡ false) × (below (twos p) (negsuc 32767) ≡ false)
 unfolding twos below first
@@ -67,7 +67,11 @@ twos-fits p h = go (ltb p 32768) refl
     go false e = let l = ltb-false p 32768 e in minus (65536 - p) (omega arith) (omega arith)
 
 pub whole-good : {role : ℕ} (word : ℕ) → 17 ≤ role → Good ≡ in-range (ranged role) word
-unfolding in-range within finite number-of signed16 first
-whole-good {role} word h =
-    let fits = twos-fits (word % 65536) (omega arith) in
-    rw (ranged-whole {role = role} h, fits .0, fits .1)
+unfolding in-range within finite number-of signed16 ranged ranges chosen below first
+whole-good {role} word h = go (eqb role 31) refl
+  where
+    go : (b : Bool) → eqb role 31 ≡ b → Good ≡ in-range (ranged role) word
+    go true e = rw (eqb-true role 31 e)
+    go false e =
+        let fits = twos-fits (word % 65536) (omega arith) in
+        rw (ranged-whole {role = role} h (eqb-false role 31 e), fits .0, fits .1)

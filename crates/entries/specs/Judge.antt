@@ -12,19 +12,20 @@ use Rattle.numbers.specs.Signed.{signed16}
 use Rattle.roles.specs.Chains.{upper-of, lower-of}
 use Rattle.roles.specs.Values.{range-of}
 use Rattle.dictionary.specs.declared.types.Kind.{Kind}
-use Rattle.dictionary.specs.declared.types.Kind.the-variants.{Unsigned8, Integer16, Unsigned16, Real32}
+use Rattle.dictionary.specs.declared.types.Kind.the-variants.{Unsigned8, Integer16, Unsigned16, Real32, Unsigned32}
 use Rattle.dictionary.specs.declared.types.Range.{Range}
 use Rattle.roles.specs.declared.types.Link.{Link}
 use Rattle.roles.specs.declared.types.Link.the-variants.{Free, Loose, Strict}
 use Rattle.entries.specs.declared.types.Verdict.{Verdict}
 use Rattle.entries.specs.declared.types.Verdict.the-variants.{Good, NotFinite, Above, Below, ChainUp, ChainDown}
 
--- the number that a word holds, cut to the type's width. A REAL32 has no range of its own: it counts as 0, in 0..0
+-- the number that a word holds, cut to the type's width. A REAL32 and an UNSIGNED32 have no range of their own: they count as 0, in 0..0
 unfoldable pub number-of : Kind → ℕ → ℤ
 number-of Unsigned8 word = pos (word % 0x100)
 number-of Unsigned16 word = pos (word % 0x10000)
 number-of Integer16 word = signed16 word
 number-of Real32 word = pos 0
+number-of Unsigned32 word = pos 0
 
 -- a REAL32 is finite unless its eight exponent bits are all ones
 unfoldable pub finite : Kind → ℕ → Bool
@@ -32,6 +33,7 @@ finite Unsigned8 word = true
 finite Unsigned16 word = true
 finite Integer16 word = true
 finite Real32 word = not (eqb (word / 0x800000 % 0x100) 0xFF)
+finite Unsigned32 word = true
 
 -- "8 above, below own range"
 unfoldable pub within : ℤ → ℤ → ℤ → Verdict

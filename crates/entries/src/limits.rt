@@ -17,6 +17,9 @@ pub fn kind_of(role: u8) -> Kind
     if role == TIME {
         return Kind::Unsigned16;
     }
+    if role == LONG {
+        return Kind::Unsigned32;
+    }
     Kind::Integer16
 }
 

@@ -18,6 +18,7 @@ fn number(kind: Kind, word: u32) -> i32
         Kind::Unsigned16 => (word % 0x1_0000) as i32,
         Kind::Integer16 => signed(word) as i32,
         Kind::Real32 => 0,
+        Kind::Unsigned32 => 0,
     }
 }
 
@@ -29,6 +30,7 @@ fn is_finite(kind: Kind, word: u32) -> bool
         Kind::Unsigned16 => true,
         Kind::Integer16 => true,
         Kind::Real32 => word / 0x80_0000 % 0x100 != 0xFF,
+        Kind::Unsigned32 => true,
     }
 }
 
@@ -47,7 +49,7 @@ fn judge_number(v: i32, low: i32, high: i32) -> Verdict
 pub fn judge_range(role: u8, word: u32) -> Verdict
     ensures { λ r. ⌜ r ≡ in-range (ranged role) word ⌝ }
 {
-    // the whole range of INTEGER16
+    // the whole range of INTEGER16 or UNSIGNED32
     if WHOLE <= role {
         return Verdict::Good;
     }

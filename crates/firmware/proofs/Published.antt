@@ -12,7 +12,7 @@ use lib.ListN.{getD}
 use Rattle.numbers.specs.Choice.{first}
 use Rattle.numbers.specs.Signed.{twos, signed16, pattern16}
 use Rattle.octets.specs.Little.{little, bytes}
-use Rattle.dictionary.specs.Names.{find, slot-of}
+use Rattle.dictionary.specs.Names.{find, slot-of, hidden, sought}
 use Rattle.dictionary.specs.Rows.{width}
 use Rattle.roles.specs.Values.{range-of}
 use Rattle.sdo.specs.Answers.{size-of, reading, obeyed, silent, answer}
@@ -52,7 +52,7 @@ own-pattern word = go (word % 0x10000) (omega arith) (ltb (word % 0x10000) 0x800
     go p h false e = below (0x10000 - p) p (omega arith) (omega arith)
 
 pub as-read : As-read
-unfolding request answered commands register entry whole byte find slot-of width range-of size-of reading obeyed silent answer little bytes index-in sub-in name-in command-of read-command cut reply reply-to first
+unfolding request answered commands register entry whole byte find slot-of hidden sought width range-of size-of reading obeyed silent answer little bytes index-in sub-in name-in command-of read-command cut reply reply-to first
 as-read unit = (each, refl)
   where
     same : (sub word : ℕ) → 0x4B ∷ 0x30 ∷ 0x73 ∷ sub ∷ bytes 4 (word % 0x10000) ≡ 0x4B ∷ 0x30 ∷ 0x73 ∷ sub ∷ bytes 4 (pattern16 (signed16 word))

@@ -9,6 +9,7 @@ use lib.ListN.{getD, set}
 use Rattle.numbers.specs.Choice.{first}
 use Rattle.numbers.specs.Signed.{pattern16}
 use Rattle.dictionary.specs.Unit.{runs-at, flags-at}
+use Rattle.input.specs.Errors.{noted}
 use Rattle.input.specs.Input.{sensed}
 use Rattle.input.specs.declared.Memory.{Memory}
 use Rattle.input.specs.declared.Settings.{Settings}
@@ -37,9 +38,10 @@ memory unit n = record { run = getD unit (runs-at + (n - 1)) 0; flagged = not (e
 unfoldable pub remember : List ℕ → ℕ → Memory → List ℕ
 remember unit n m = set (set unit (runs-at + (n - 1)) (m .run)) (flags-at + (n - 1)) (first (m .flagged) 1 0)
 
--- what input n makes of a sample: 7100h, 7130h, its signal, its run and its flag
+-- what input n makes of a sample: 7100h, 7130h, its signal, a flagging's entry in 1003h, its run and its flag
 unfoldable pub inputTurn : ℤ → ℕ → List ℕ → List ℕ
 inputTurn sample n unit =
     let after = sensed (settings unit n) (memory unit n) sample in
     let published = publish (publish unit 0x7100 n (pattern16 sample)) 0x7130 n (pattern16 (after .reads)) in
-    remember (lay published inputs n (after .signal)) n (after .memory)
+    let laid = lay published inputs n (after .signal) in
+    remember (noted laid n (memory unit n .flagged) (after .memory .flagged)) n (after .memory)

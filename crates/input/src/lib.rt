@@ -1,4 +1,5 @@
-// An analog input: whether it is flagged, and what it hands on; turns.rt has the four of them in a tick.
+// An analog input: whether it is flagged, and what it hands on; turns.rt has the four of them in a tick, errors.rt the list of their flaggings.
+mod errors;
 pub mod turns;
 
 use numbers::exact::difference;

@@ -8,6 +8,7 @@ ghost use Rattle.input.specs.Inputs.{settings, inputTurn};
 ghost use Rattle.unit.specs.Each.{each};
 use crate::Memory;
 use crate::Settings;
+use crate::errors::note;
 use crate::sense;
 use dictionary::slots::DELAY;
 use dictionary::slots::DETECT;
@@ -74,12 +75,14 @@ pub fn inputs(unit: &mut Unit, samples: [i16; 4])
     for row in 0..4_u32 {
         let k = row as usize;
         let sample = samples[k];
-        let after = sense(settings_of(unit, k), memory(unit, k), sample);
+        let before = memory(unit, k);
+        let after = sense(settings_of(unit, k), before, sample);
         let signal = after.signal;
         let next = after.memory;
         unit[SAMPLE + k] = pattern(sample);
         unit[INPUT_PV + k] = pattern(after.reads);
         lay(unit, k, signal);
+        note(unit, k, before.flagged, next.flagged);
         remember(unit, k, next);
     }
 }

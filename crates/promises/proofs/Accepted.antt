@@ -9,13 +9,14 @@ use lib.Dec.{ltb}
 use lib.ListN.{length, getD}
 use borrow.Author.Tests.{ltb-true, ltb-false, not-false}
 use Rattle.numbers.specs.Choice.{first}
-use Rattle.dictionary.specs.Names.{find, writable}
+use Rattle.dictionary.specs.Names.{find, sought, writable}
+use Rattle.dictionary.proofs.naming.Sought.{sought-at}
 use Rattle.dictionary.specs.declared.types.Found.{Found}
 use Rattle.dictionary.specs.declared.types.Found.the-variants as found
 use Rattle.entries.specs.Judge.{judged}
 use Rattle.entries.specs.declared.types.Verdict.{Verdict}
 use Rattle.entries.specs.declared.types.Verdict.the-variants as verdict
-use Rattle.sdo.specs.Answers.{size-of, reading, stored, offered, refused, length-of, writing, obeyed, silent, answer}
+use Rattle.sdo.specs.Answers.{size-of, reading, stored, unclear, offered, refused, length-of, writing, obeyed, silent, answer}
 use Rattle.sdo.specs.Frames.{command-of, index-in, sub-in, data-in}
 use Rattle.sdo.specs.declared.types.Abort.{Abort}
 use Rattle.sdo.specs.declared.types.Answer.{Answer}
@@ -31,6 +32,7 @@ pub record Accepted (words frame : List ℕ) (slot word : ℕ) : Type 0 where
   pub found : find (index-in frame) (sub-in frame) ≡ found.At slot
   pub below : slot < writable
   pub holds : word ≡ data-in (size-of slot) frame
+  pub clear : unclear slot word ≡ false
   pub good : judged words slot word ≡ verdict.Good
 
 module _ (words frame : List ℕ) (room slot word : ℕ) where
@@ -70,7 +72,8 @@ module _ (words frame : List ℕ) (room slot word : ℕ) where
         let own = passed (not (ltb s writable)) _ _ e in
         let long = passed (ltb (size-of s) size) _ _ (own .1) in
         let short = passed (ltb size (size-of s)) _ _ (long .1) in
-        let kept = only-good s (data-in size frame) (judged words s (data-in size frame)) (short .1) in
+        let clear = passed (unclear s (data-in size frame)) _ _ (short .1) in
+        let kept = only-good s (data-in size frame) (judged words s (data-in size frame)) (clear .1) in
         let l : s < writable = ltb-true s writable (not-false (ltb s writable) (own .0)) in
         let a = ltb-false (size-of s) size (long .0) in
         let b = ltb-false size (size-of s) (short .0) in
@@ -82,16 +85,17 @@ module _ (words frame : List ℕ) (room slot word : ℕ) where
           found = f ∙ ap found.At same;
           below = rw same at l;
           holds = sym data-is ∙ ap (λ (n : ℕ). data-in n frame) (sym (rw same at own-size));
+          clear = rw (same, data-is) at (clear .0);
           good = ap (λ (w : ℕ). judged words slot w) (sym data-is) ∙ ap (λ (s : ℕ). judged words s (data-in size frame)) (sym same) ∙ kept .0;
         }
 
     -- rows 3 and 4
-    by-name : (size : Size) (f : Found) → find (index-in frame) (sub-in frame) ≡ f → writing words frame size f ≡ Written slot word → Accepted words frame slot word
+    by-name : (size : Size) (f : Found) → sought words (index-in frame) (sub-in frame) ≡ f → writing words frame size f ≡ Written slot word → Accepted words frame slot word
     unfolding writing refused
     by-name size found.NoIndex f e = absurd (no-abort _ e)
     by-name size found.NoSub f e = absurd (no-abort _ e)
     by-name size (found.Count n) f e = absurd (no-abort _ e)
-    by-name size (found.At s) f e = by-offer s (length-of size (size-of s)) f e
+    by-name size (found.At s) f e = by-offer s (length-of size (size-of s)) (sought-at words (index-in frame) (sub-in frame) s f) e
 
     no-read : (f : Found) → reading words f ≡ Written slot word → ⊥
     unfolding reading
@@ -103,8 +107,8 @@ module _ (words frame : List ℕ) (room slot word : ℕ) where
     -- row 2
     by-command : (c : Command) → obeyed words frame c ≡ Written slot word → Accepted words frame slot word
     unfolding obeyed
-    by-command Read e = absurd (no-read (find (index-in frame) (sub-in frame)) e)
-    by-command (Write size) e = by-name size (find (index-in frame) (sub-in frame)) refl e
+    by-command Read e = absurd (no-read (sought words (index-in frame) (sub-in frame)) e)
+    by-command (Write size) e = by-name size (sought words (index-in frame) (sub-in frame)) refl e
     by-command Other e = absurd (no-abort _ e)
 
   pub accepted : answer words frame room ≡ Written slot word → Accepted words frame slot word

@@ -6,7 +6,7 @@ use native.Mathlib.Nat.{mod-eq-of-lt}
 use Rattle.numbers.specs.Choice.{first}
 use Rattle.dictionary.specs.Rows.{width}
 use Rattle.dictionary.specs.declared.types.Kind.{Kind}
-use Rattle.dictionary.specs.declared.types.Kind.the-variants.{Unsigned8, Integer16, Unsigned16, Real32}
+use Rattle.dictionary.specs.declared.types.Kind.the-variants.{Unsigned8, Integer16, Unsigned16, Real32, Unsigned32}
 use Rattle.sdo.specs.Frames.{cut}
 
 -- a word that has no more bytes than its type is not cut
@@ -16,3 +16,4 @@ uncut Unsigned8 word h = mod-eq-of-lt h
 uncut Integer16 word h = mod-eq-of-lt h
 uncut Unsigned16 word h = mod-eq-of-lt h
 uncut Real32 word h = refl
+uncut Unsigned32 word h = refl

@@ -6,6 +6,8 @@ use Rattle.output.proofs.Lasting as Lasting
 use Rattle.table.proofs.Curves as curves
 use Rattle.promises.specs.Demands.{Demand-1, Demand-2, Demand-3, Asked-for}
 use Rattle.promises.proofs.Bench as Bench
+use Rattle.promises.proofs.Errors as Errors
+use Rattle.controller.proofs.Listed as Listed
 use Rattle.promises.proofs.Curves as Curves
 use Rattle.promises.proofs.ByWay as ByWay
 use Rattle.promises.proofs.FrameRefusals as FrameRefusals
@@ -119,4 +121,11 @@ asked-for =
       by-way = ByWay.by-way;
       cost-of-the-way = ByWay.cost-of-the-way;
       same-end = ByWay.same-end;
+      enter-in-front = Listed.enter-in-front;
+      only-cleared = Errors.only-cleared;
+      load-leaves-it = Errors.load-leaves-it;
+      always-agrees = Errors.always-agrees;
+      read-exactly = Errors.read-exactly;
+      last-eight = Errors.last-eight;
+      what-went-wrong-first = Errors.what-went-wrong-first;
     }

@@ -2,8 +2,10 @@ pub mod Accepted
 pub mod Bench
 pub mod ByWay
 pub mod ByteLaws
+pub mod Clearing
 pub mod Curves
 pub mod Demands
+pub mod Errors
 pub mod FrameRefusals
 pub mod ImageRefusals
 pub mod Images

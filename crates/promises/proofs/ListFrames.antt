@@ -13,7 +13,6 @@ use Rattle.octets.specs.Little.{little, bytes, Bytes}
 use Rattle.octets.proofs.little.ByteLaws.{bytes-length, read-back, bytes-from}
 use Rattle.numbers.specs.Choice.{every}
 use Rattle.dictionary.specs.Names.{configured}
-use Rattle.entries.proofs.Configuration.{can-be-written}
 use Rattle.dictionary.proofs.naming.NameLaws as Names
 use Rattle.entries.specs.Judge.{judged}
 use Rattle.sdo.specs.Answers.{size-of, stored, answer}
@@ -76,7 +75,7 @@ module _ (image : List ℕ) (g : reading image ≡ Good) (slot : ℕ) (h : slot 
       → answer words (frame-at image slot) room ≡ stored slot (getD (configuration-in image) slot 0) (judged words slot (getD (configuration-in image) slot 0))
   unfolding frame-at body
   answered words room k =
-      Record.answered (entry listed slot) body right slot (named slot h) (can-be-written slot h) (own-size slot h) words room k
+      Record.answered (entry listed slot) body right slot (named slot h) h (own-size slot h) words room k
       ∙ ap (λ (w : ℕ). stored slot w (judged words slot w)) word-is
 
   pub frame-bytes : Bytes image → Bytes (frame-at image slot)

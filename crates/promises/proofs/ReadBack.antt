@@ -8,6 +8,7 @@ use lib.ListN.{length, getD, set, take, drop, replicate, length-drop}
 use lib.Seq.{length-take-le}
 use Rattle.numbers.specs.Choice.{first}
 use Rattle.dictionary.specs.Names.{find}
+use Rattle.dictionary.proofs.naming.Sought.{still-sought}
 use Rattle.dictionary.specs.declared.types.Found.the-variants.{At}
 use Rattle.dictionary.specs.Unit.{unit-size}
 use Rattle.roles.specs.Values.{range-of}
@@ -50,7 +51,7 @@ module _ (words frame : List ℕ) (slot word : ℕ) (a : Accepted words frame sl
     value-back =
         sym (spoken (set words slot word) query 8 eight (omega arith) (λ e. omega arith))
         ∙ ap (obeyed (set words slot word) query) a-read
-        ∙ ap (reading (set words slot word)) same-name
+        ∙ ap (reading (set words slot word)) (still-sought (set words slot word) (index-in query) (sub-in query) slot same-name (a .below))
         ∙ ap (λ (w : ℕ). Value w (size-of slot)) (there words frame slot word a l)
 
     pub reply-back : reply-to query (answer (set words slot word) query 8) ≡ read-command (size-of slot) ∷ name-in frame ++ take (size-of slot) (drop 4 frame) ++ replicate (4 - size-of slot) 0

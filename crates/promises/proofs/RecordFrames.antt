@@ -10,17 +10,20 @@ use Rattle.octets.specs.Little.{little, Bytes}
 use Rattle.octets.proofs.little.ByteLaws.{bytes-from, bytes-to}
 use Rattle.octets.proofs.little.Parts.{placed, part}
 use Rattle.numbers.specs.Choice.{first}
-use Rattle.dictionary.specs.Names.{find, writable}
+use Rattle.dictionary.specs.Names.{find, configured}
+use Rattle.dictionary.proofs.naming.Sought.{still-sought}
 use Rattle.dictionary.specs.Rows.{width}
 use Rattle.dictionary.specs.declared.types.Found.the-variants.{At}
 use Rattle.dictionary.specs.declared.types.Kind.{Kind}
-use Rattle.dictionary.specs.declared.types.Kind.the-variants.{Unsigned8, Integer16, Unsigned16, Real32}
+use Rattle.dictionary.specs.declared.types.Kind.the-variants.{Unsigned8, Integer16, Unsigned16, Real32, Unsigned32}
 use Rattle.entries.specs.Judge.{judged}
 use Rattle.sdo.specs.Answers.{size-of, stored, length-of, answer}
 use Rattle.sdo.specs.Frames.{index-in, sub-in, data-in, command-of}
 use Rattle.sdo.specs.declared.types.Command.the-variants.{Write}
 use Rattle.sdo.specs.declared.types.Size.the-variants.{Told}
-use Rattle.sdo.proofs.AnswerLaws.{fitting, a-write, spoken}
+use Rattle.entries.proofs.Configuration.{can-be-written}
+use Rattle.sdo.proofs.AnswerLaws.{in-full, a-write, spoken}
+use Rattle.sdo.proofs.Clearing.{configured-through}
 use Rattle.records.specs.Layout.{Listed, size}
 use Rattle.records.specs.Walk as records
 use Rattle.records.specs.Walk.{size-in}
@@ -41,6 +44,7 @@ commands Unsigned8 = refl
 commands Integer16 = refl
 commands Unsigned16 = refl
 commands Real32 = refl
+commands Unsigned32 = refl
 
 -- a write is no abort, and is one byte
 pub no-abort : (kind : Kind) → (write-command (width kind) < 256) × (write-command (width kind) ≡ 0x80 → ⊥)
@@ -49,6 +53,7 @@ no-abort Unsigned8 = (omega arith, λ e. omega arith)
 no-abort Integer16 = (omega arith, λ e. omega arith)
 no-abort Unsigned16 = (omega arith, λ e. omega arith)
 no-abort Real32 = (omega arith, λ e. omega arith)
+no-abort Unsigned32 = (omega arith, λ e. omega arith)
 
 -- ---- bytes joined
 
@@ -117,10 +122,11 @@ module _ (e : Listed) (rest : List ℕ) (r : Right e rest) where
   commanded = ap command-of command-is ∙ commands (e .range .kind)
 
   -- it is judged as a write of the record's data to the slot that has its name
-  pub answered : (slot : ℕ) → find (e .index) (e .sub) ≡ At slot → slot < writable → size-of slot ≡ size e → (words : List ℕ) (room : ℕ) → 8 ≤ room
+  pub answered : (slot : ℕ) → find (e .index) (e .sub) ≡ At slot → slot < configured → size-of slot ≡ size e → (words : List ℕ) (room : ℕ) → 8 ≤ room
       → answer words (frame-of rest) room ≡ stored slot (records.data-in (size e) rest) (judged words slot (records.data-in (size e) rest))
   unfolding size length-of
   answered slot found below own words room h =
       sym (spoken words (frame-of rest) room eight h (λ a. no-abort (e .range .kind) .1 (sym command-is ∙ a)))
-      ∙ sym (a-write words (frame-of rest) (Write (Told (size e))) (sym commanded) (e .index) (e .sub) (At slot) (sym index-is) (sym sub-is) (sym found) (Told (size e)) refl)
-      ∙ sym (fitting words (frame-of rest) (Told (size e)) slot below (size e) (size e) (sym own) refl refl (records.data-in (size e) rest) (sym data-is))
+      ∙ sym (a-write words (frame-of rest) (Write (Told (size e))) (sym commanded) (e .index) (e .sub) (At slot) (sym index-is) (sym sub-is) (sym (still-sought words (e .index) (e .sub) slot found (can-be-written slot below))) (Told (size e)) refl)
+      ∙ sym (in-full words (frame-of rest) (Told (size e)) slot (can-be-written slot below) (size e) (size e) (sym own) refl refl (records.data-in (size e) rest) (sym data-is))
+      ∙ configured-through slot (records.data-in (size e) rest) below _

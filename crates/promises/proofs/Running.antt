@@ -18,7 +18,6 @@ use Rattle.roles.specs.Chains.{upper-of}
 use Rattle.entries.specs.Judge.{held, past-upper, in-range}
 use Rattle.entries.specs.Valid.{Valid}
 use Rattle.roles.specs.Values.{range-of, starts, at-start}
-use Rattle.entries.proofs.Configuration.{can-be-written}
 use Rattle.entries.proofs.Neighbours.{upper-another, is-another, another, upper-same}
 use Rattle.entries.proofs.Start.{valid-at-start}
 use Rattle.sdo.specs.Answers.{answer}
@@ -38,7 +37,6 @@ use Rattle.unit.specs.Entry.{entry}
 use Rattle.input.specs.Inputs.{memory}
 use Rattle.controller.specs.Register.{anyFlagged}
 use Rattle.controller.specs.Tick.{ticked}
-use Rattle.controller.specs.TickLaws.{before}
 use Rattle.controller.proofs.Kept.{Kept, register-first}
 use Rattle.controller.proofs.TickLaws as Tick
 use Rattle.promises.specs.Running.{Event, frame, tick, load, happens, run, Did, Ran, Only-the-fold, Made-of-bytes, Sound, Always-sound}
@@ -104,7 +102,7 @@ sound-after-frame unit f room b h =
 
 -- a tick leaves the configuration
 pub kept-by-tick : (samples : List ℤ) (unit : List ℕ) (k : ℕ) → k < configured → getD (ticked samples unit) k 0 ≡ getD unit k 0
-kept-by-tick samples unit k h = Tick.words-kept samples unit k (before (can-be-written k h))
+kept-by-tick samples unit k h = Tick.words-kept samples unit k (Tick.configured-kept k h)
 
 pub sound-after-tick : (unit : List ℕ) (samples : List ℤ) → Sound unit → Sound (happens (tick samples) unit)
 unfolding happens

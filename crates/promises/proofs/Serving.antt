@@ -1,7 +1,7 @@
 -- The promises of frames.
 -- Assumes nothing.
 use mathlib.Core.Path.{_≡_, refl, sym, ap, _∙_, subst}
-use mathlib.Core.Bool.{Bool, true, _&&_, not, and-eq-true-iff}
+use mathlib.Core.Bool.{Bool, true, false, _&&_, not, and-eq-true-iff}
 use mathlib.Core.List.{List, _∷_, _++_}
 use Prim.Native.Nat.{ℕ, _-_}
 use native.Mathlib.Omega.{arith}
@@ -11,9 +11,12 @@ use lib.Seq.{getD-set-other}
 use borrow.Author.Tests.{le-ltb, ne-eqb, eqb-false, not-true}
 use Rattle.numbers.specs.Choice.{first}
 use Rattle.numbers.proofs.Choices.{chosen}
-use Rattle.dictionary.specs.Names.{find, writable}
+use Rattle.dictionary.specs.Names.{find, hidden, sought, writable}
+use Rattle.dictionary.proofs.naming.Sought.{still-sought}
+use Rattle.entries.proofs.Configuration.{can-be-written}
 use Rattle.dictionary.specs.Rows.{width}
 use Rattle.dictionary.specs.Unit.{unit-size}
+use Rattle.dictionary.specs.declared.types.Kind.{Kind}
 use Rattle.dictionary.specs.declared.types.Found.{Found}
 use Rattle.dictionary.specs.declared.types.Found.the-variants as found
 use Rattle.dictionary.proofs.naming.NameLaws.{counted}
@@ -24,7 +27,7 @@ use Rattle.entries.specs.declared.types.Verdict.{Verdict}
 use Rattle.entries.specs.declared.types.Verdict.the-variants as verdict
 use Rattle.roles.specs.Values.{range-of}
 use Rattle.entries.proofs.Start.{valid-at-start}
-use Rattle.sdo.specs.Answers.{size-of, reading, stored, offered, refused, length-of, writing, obeyed, silent, answer}
+use Rattle.sdo.specs.Answers.{size-of, reading, stored, unclear, offered, refused, length-of, writing, obeyed, silent, answer}
 use Rattle.sdo.specs.Frames.{index-in, sub-in, code, reply, name-in, data-in, command-of, read-command, reply-to}
 use Rattle.sdo.specs.declared.types.Abort.the-variants as abort
 use Rattle.sdo.specs.declared.types.Answer.{Answer}
@@ -91,9 +94,15 @@ reads-back words frame room slot word l b e query eight r n =
     reply-back words frame slot word (accepted words frame room slot word e) b l query eight r n
 
 pub size-not-told : Size-not-told
-unfolding answer silent obeyed command-of index-in sub-in data-in writing length-of size-of first
-size-not-told unit rest room slot f =
-    let kind = range-of slot .kind in rw (f, commands kind, ne-eqb (write-command (width kind)) 0x80 (no-abort kind .1), f)
+unfolding answer silent obeyed command-of index-in sub-in data-in sought writing length-of size-of first
+size-not-told unit rest room slot f = go (hidden unit (index-in (0x22 ∷ rest)) (sub-in (0x22 ∷ rest))) refl
+  where
+    kind : Kind
+    kind = range-of slot .kind
+
+    go : (b : Bool) → hidden unit (index-in (0x22 ∷ rest)) (sub-in (0x22 ∷ rest)) ≡ b → answer unit (0x22 ∷ rest) room ≡ answer unit (write-command (size-of slot) ∷ rest) room
+    go true h = rw (h, commands kind, ne-eqb (write-command (width kind)) 0x80 (no-abort kind .1), h)
+    go false h = rw (h, f, commands kind, ne-eqb (write-command (width kind)) 0x80 (no-abort kind .1), h, f)
 
 -- an answer that is no abort of orders 2 and 6
 clear : Answer → Bool
@@ -129,17 +138,21 @@ never-for-its-length unit rest room a e =
     by-name (found.Count n) = refl
     by-name (found.At slot) =
         either (not (ltb slot writable)) (Aborted abort.ReadOnly) _ refl
-        (rw (le-ltb (size-of slot) (size-of slot) (omega arith)) (by-verdict slot _ (judged unit slot (data-in (size-of slot) (0x22 ∷ rest)))))
+        (rw (le-ltb (size-of slot) (size-of slot) (omega arith))
+        (either (unclear slot (data-in (size-of slot) (0x22 ∷ rest))) (Aborted abort.NotClear) _ refl (by-verdict slot _ (judged unit slot (data-in (size-of slot) (0x22 ∷ rest))))))
 
     spoken : clear (answer unit (0x22 ∷ rest) room) ≡ true
-    spoken = either (silent (0x22 ∷ rest) room) Silent _ refl (by-name (find (index-in (0x22 ∷ rest)) (sub-in (0x22 ∷ rest))))
+    spoken = either (silent (0x22 ∷ rest) room) Silent _ refl (by-name (sought unit (index-in (0x22 ∷ rest)) (sub-in (0x22 ∷ rest))))
 
 pub decided-by-configuration : Decided-by-configuration
 unfolding answer obeyed reading writing offered
 decided-by-configuration words other frame room slot same f h =
     ap (first (silent frame room) Silent) (by (command-of (getD frame 0 0)))
   where
+    there : (unit : List ℕ) → sought unit (index-in frame) (sub-in frame) ≡ found.At slot
+    there unit = still-sought unit (index-in frame) (sub-in frame) slot f (can-be-written slot h)
+
     by : (c : Command) → obeyed words frame c ≡ obeyed other frame c
-    by Read = rw (f, same slot h)
-    by (Write size) = rw (f, judged-same words other (λ k l. same k l) slot (data-in (length-of size (size-of slot)) frame) h)
+    by Read = rw (there words, there other, same slot h)
+    by (Write size) = rw (there words, there other, judged-same words other (λ k l. same k l) slot (data-in (length-of size (size-of slot)) frame) h)
     by Other = refl

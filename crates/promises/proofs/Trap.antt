@@ -13,13 +13,13 @@ use Rattle.octets.specs.Little.{little, bytes, Bytes}
 use Rattle.numbers.specs.Choice.{first, every}
 use Rattle.numbers.specs.Order.{below}
 use Rattle.numbers.specs.Signed.{twos, signed16}
-use Rattle.dictionary.specs.Names.{configured, find, slot-of, writable}
+use Rattle.dictionary.specs.Names.{configured, find, slot-of, hidden, sought, writable}
 use Rattle.dictionary.specs.Rows.{width}
 use Rattle.roles.specs.Chains.{chains, upper-in, lower-in, upper-of, lower-of}
 use Rattle.roles.specs.Values.{range-of, starts, at-start}
 use Rattle.entries.specs.Judge.{number-of, finite, within, in-range, held, past-upper, past-lower, in-order, before, judged}
 use Rattle.entries.proofs.Start.{valid-at-start}
-use Rattle.sdo.specs.Answers.{size-of, stored, offered, length-of, writing, obeyed, silent, answer}
+use Rattle.sdo.specs.Answers.{size-of, stored, unclear, offered, length-of, writing, obeyed, silent, answer}
 use Rattle.sdo.specs.Frames.{index-in, sub-in, name-in, data-in, command-of, code, reply, reply-to}
 use Rattle.sdo.specs.Served.{after}
 use Rattle.records.specs.Layout.{listed, size, entry, offset, record-in, record-of, records, image-of}
@@ -59,7 +59,7 @@ unfolding every bytes
 all-bytes = of-bytes (downward point) refl
 
 written : run (map write (downward point)) at-start ≡ moved
-unfolding moved run happens after slot-of first below twos signed16 find writable width chains upper-in lower-in upper-of lower-of number-of finite within in-range held past-upper past-lower in-order before judged range-of starts at-start size-of stored offered length-of writing obeyed silent answer little bytes index-in sub-in data-in command-of
+unfolding moved run happens after slot-of first below twos signed16 find hidden sought writable width chains upper-in lower-in upper-of lower-of number-of finite within in-range held past-upper past-lower in-order before judged range-of starts at-start size-of stored unclear offered length-of writing obeyed silent answer little bytes index-in sub-in data-in command-of
 written = refl
 
 sound : Sound moved
@@ -96,7 +96,7 @@ unfolding the-list flatMap frames-in frames-from frame-of write-command size-in 
 frames-computed = refl
 
 upward-refused : reply-to (point 1 500) (answer at-start (point 1 500) 8) ≡ 0x80 ∷ 0x15 ∷ 0x30 ∷ 0x01 ∷ 0x31 ∷ 0x00 ∷ 0x09 ∷ 0x06 ∷ []
-unfolding first below twos signed16 find writable width chains upper-in lower-in upper-of lower-of number-of finite within in-range held past-upper past-lower in-order before judged range-of starts at-start size-of stored offered length-of writing obeyed silent answer little bytes index-in sub-in name-in data-in command-of code reply reply-to
+unfolding first below twos signed16 find hidden sought writable width chains upper-in lower-in upper-of lower-of number-of finite within in-range held past-upper past-lower in-order before judged range-of starts at-start size-of stored unclear offered length-of writing obeyed silent answer little bytes index-in sub-in name-in data-in command-of code reply reply-to
 upward-refused = refl
 
 pub out-of-the-trap : Out-of-the-trap

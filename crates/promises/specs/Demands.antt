@@ -6,6 +6,8 @@ use Rattle.output.specs.Lasting.{Lasts, Moves-on, On-time, At-once}
 use Rattle.table.specs.Curves.{Never-dips, Stays-between}
 use Rattle.promises.specs.Bench.{On-the-bench}
 use Rattle.promises.specs.Curves.{Tables-never-dip, Tables-stay-between}
+use Rattle.controller.specs.Listed.{Enter-in-front}
+use Rattle.promises.specs.Errors.{Only-cleared, Load-leaves-it, Always-agrees, Read-exactly, Last-eight, What-went-wrong-first}
 use Rattle.promises.specs.ByWay.{There-and-back, By-way, Cost-of-the-way, Same-end}
 use Rattle.promises.specs.FrameRefusals.{Frames-meet-theirs, Codes-as-listed}
 use Rattle.promises.specs.Images.{Saved-reads-back, Same-bytes-again, Accepts-exactly, One-configuration-each, Refusals-write-nothing, One-outcome, Looked-up-as-it-stands}
@@ -179,3 +181,17 @@ pub record Asked-for : Type 0 where
   pub cost-of-the-way : Cost-of-the-way
   -- "and sending both lists leaves what the direct one leaves."
   pub same-end : Same-end
+  -- (viii) "Keep the last 8 flaggings beside the inputs, newest at sub 1 ..; code in the low half, input number in the high half"; "Two on one tick enter by input number"
+  pub enter-in-front : Enter-in-front
+  -- "0 clears the whole list and leaves 1001h"
+  pub only-cleared : Only-cleared
+  -- "Not configuration."
+  pub load-leaves-it : Load-leaves-it
+  -- "Sub 0 (u8, 0 at start) is the number kept and always agrees with the list"
+  pub always-agrees : Always-agrees
+  -- "another value at sub 0 gives 06090030h, after order 6; a sub above the number kept gives 06090011h, in order 4": with the rows of demand 1, and of each sub
+  pub read-exactly : Read-exactly
+  -- of any frames, ticks and loads: the list is what the flaggings since the last clearing make it
+  pub last-eight : Last-eight
+  -- "Technicians ask what went wrong first."
+  pub what-went-wrong-first : What-went-wrong-first

@@ -9,7 +9,7 @@ use lib.ListN.{length, getD}
 use Rattle.numbers.specs.Choice.{first}
 use Rattle.numbers.specs.Order.{below}
 use Rattle.numbers.specs.Signed.{signed16}
-use Rattle.dictionary.specs.Names.{find, slot-found, writable}
+use Rattle.dictionary.specs.Names.{find, slot-found, hidden, writable}
 use Rattle.dictionary.specs.Rows.{width}
 use Rattle.dictionary.specs.declared.types.Found.{Found}
 use Rattle.dictionary.specs.declared.types.Found.the-variants.{NoIndex, NoSub, Count, At}
@@ -17,7 +17,7 @@ use Rattle.roles.specs.Chains.{upper-of, lower-of}
 use Rattle.roles.specs.Roles.{chosen}
 use Rattle.roles.specs.Values.{range-of}
 use Rattle.entries.specs.Judge.{number-of, finite, past-upper, past-lower}
-use Rattle.sdo.specs.Answers.{reading, answer}
+use Rattle.sdo.specs.Answers.{unclear, reading, answer}
 use Rattle.sdo.specs.Frames.{index-in, sub-in, data-in, code}
 use Rattle.sdo.specs.declared.types.Abort.the-variants as abort
 use Rattle.sdo.specs.declared.types.Answer.{Answer}
@@ -50,16 +50,16 @@ unknown-sub NoSub = true
 unknown-sub (Count n) = false
 unknown-sub (At slot) = false
 
--- "sub 0 is the largest sub-index (UNSIGNED8, read only)"; the slots of the configuration and of 2500h come first
+-- "sub 0 is the largest sub-index (UNSIGNED8, read only)"; the slots of the configuration, of 2500h and of 1003h:0 come first
 unfoldable pub read-only : Found → Bool
 read-only NoIndex = false
 read-only NoSub = false
 read-only (Count n) = true
 read-only (At slot) = not (ltb slot writable)
 
--- rows 3 to 9, of what a name stands for and the bytes that are written to it, so many, as one number
-unfoldable pub name-rows : List ℕ → Found → ℕ → ℕ → List (Bool × Answer)
-name-rows unit name size word =
+-- rows 3 to 9, of what a name stands for, whether it is of 1003h and above the number kept, and the bytes that are written to it, so many, as one number
+unfoldable pub name-rows : List ℕ → Found → Bool → ℕ → ℕ → List (Bool × Answer)
+name-rows unit name above size word =
     let write = ltb 0 size in
     let slot = slot-found name in
     let range = range-of slot in
@@ -67,13 +67,15 @@ name-rows unit name size word =
     let value = number-of (range .kind) word in
     -- "3 | index unknown | 06020000h"
     (unknown-index name, Aborted abort.NoIndex)
-    -- "4 | sub unknown | 06090011h"
-    ∷ (unknown-sub name, Aborted abort.NoSub)
+    -- "4 | sub unknown | 06090011h"; (viii) "a sub above the number kept gives 06090011h, in order 4"
+    ∷ (unknown-sub name || above, Aborted abort.NoSub)
     -- "5 | write to a read-only name | 06010002h"
     ∷ (write && read-only name, Aborted abort.ReadOnly)
     -- "6 | longer, shorter than the type | 06070012h, 06070013h"
     ∷ (write && ltb own size, Aborted abort.TooLong)
     ∷ (write && ltb size own, Aborted abort.TooShort)
+    -- (viii) "another value at sub 0 gives 06090030h, after order 6"
+    ∷ (write && unclear slot word, Aborted abort.NotClear)
     -- "7 | REAL32 not finite | 06090030h"
     ∷ (write && not (finite (range .kind) word), Aborted abort.NotFinite)
     -- "8 | above, below own range | 06090031h, 06090032h"
@@ -94,7 +96,7 @@ frame-rows unit frame room =
     (not (eqb (length frame) 8) || (ltb room 8 || eqb command 0x80), Silent)
     -- "2 | other command byte | 05040001h"; "a read is 40h"
     ∷ (not (eqb command 0x40 || ltb 0 size), Aborted abort.Command)
-    ∷ name-rows unit name size (data-in size frame)
+    ∷ name-rows unit name (hidden unit (index-in frame) (sub-in frame)) size (data-in size frame)
 
 -- the answer to a good frame: what is written is stored in its entry's word, or what is read is sent
 unfoldable pub good : List ℕ → List ℕ → Answer
@@ -125,6 +127,7 @@ Codes-as-listed =
     ∷ 0x06010002
     ∷ 0x06070012
     ∷ 0x06070013
+    ∷ 0x06090030
     ∷ 0x06090030
     ∷ 0x06090031
     ∷ 0x06090032

@@ -3,6 +3,7 @@ pub mod ByWay
 pub mod Curves
 pub mod Delivery
 pub mod Demands
+pub mod Errors
 pub mod FrameRefusals
 pub mod ImageRefusals
 pub mod Images

@@ -7,7 +7,7 @@ use Prim.Native.Nat.{ℕ, zero, suc, _+_, _%_, _<_, _≤_, zero-le}
 use native.Mathlib.Omega.{arith}
 use lib.Dec.{eqb, ltb}
 use lib.ListN.{length, getD, take, drop}
-use borrow.Author.Tests.{lt-ltb, le-ltb, eq-eqb, ne-eqb}
+use borrow.Author.Tests.{lt-ltb, le-ltb, eq-eqb, ne-eqb, ltb-true}
 use Rattle.octets.specs.Little.{little}
 use Rattle.octets.proofs.little.Parts.{placed, part}
 use Rattle.numbers.specs.Choice.{first}
@@ -15,7 +15,7 @@ use Rattle.dictionary.specs.Rows.{width, u8}
 use Rattle.dictionary.specs.declared.types.Range.{Range}
 use Rattle.dictionary.proofs.Tabulate.{tabulate, agree}
 use Rattle.dictionary.specs.declared.types.Kind.{Kind}
-use Rattle.dictionary.specs.declared.types.Kind.the-variants.{Unsigned8, Integer16, Unsigned16, Real32}
+use Rattle.dictionary.specs.declared.types.Kind.the-variants.{Unsigned8, Integer16, Unsigned16, Real32, Unsigned32}
 use Rattle.numbers.specs.Order.{below}
 use Rattle.entries.specs.Judge.{number-of, finite, within, in-range, is-good}
 use Rattle.entries.specs.declared.types.Verdict.the-variants.{Good, Above, Below}
@@ -62,6 +62,7 @@ is-there kind rest {n} e h = rw (le-ltb (length rest) (7 + n) h, e) (go kind)
     go Integer16 = refl
     go Unsigned16 = refl
     go Real32 = refl
+    go Unsigned32 = refl
 
 -- ---- the entry of a row's sub, by its role
 
@@ -69,6 +70,23 @@ module _ (row sub : ℕ) {role : ℕ} (q : role ≡ role-at row sub) where
   pub same-size : {n : ℕ} → n ≡ width (ranged role .kind) → n ≡ size (entry-at row sub)
   unfolding size entry-at
   same-size w = w ∙ ap (λ (r : ℕ). width (ranged r .kind)) q
+
+  -- no row holds an UNSIGNED32
+  pub no-long : role ≡ 31 → ⊥
+  unfolding role-at first
+  no-long e = small (ltb (row % 0x100) 31) refl (sym e ∙ q)
+    where
+      rest : ℕ
+      rest = first (eqb sub 5) 5 (first (eqb (sub % 2) 1) 6 7)
+
+      low : (a b : Bool) → _≡_ {A = ℕ} 31 (first a 5 (first b 6 7)) → ⊥
+      low true b p = omega arith
+      low false true p = omega arith
+      low false false p = omega arith
+
+      small : (t : Bool) → ltb (row % 0x100) 31 ≡ t → _≡_ {A = ℕ} 31 (first t (row % 0x100) rest) → ⊥
+      small true l p = let m = ltb-true (row % 0x100) 31 l in omega arith
+      small false l p = low (eqb sub 5) (eqb (sub % 2) 1) p
 
   pub same-fits : (word : ℕ) → is-good (in-range (ranged role) word) ≡ fits (entry-at row sub) word
   unfolding fits entry-at

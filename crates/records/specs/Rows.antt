@@ -16,7 +16,7 @@ last-sub row = row / 0x100 % 0x10
 -- "condition: source, number, source, number, comparison"
 unfoldable pub role-at : ℕ → ℕ → ℕ
 role-at row sub =
-    first (ltb (row % 0x100) 0x20) (row % 0x100)
+    first (ltb (row % 0x100) 31) (row % 0x100)
     (first (eqb sub 5) 5 (first (eqb (sub % 2) 1) 6 7))
 
 -- "number u8 0..15"; before it, a role's number is the greatest value of its byte

@@ -4,8 +4,8 @@ ghost use mathlib.Core.Path.{_≡_};
 ghost use Rattle.records.specs.Rows.{role-at};
 use roles::telling::*;
 
-// Source, number, source, number, comparison, by the sub: no role of a slot has this number.
-pub const CONDITION: u8 = 0x20;
+// Source, number, source, number, comparison, by the sub: no record has the role whose number this is.
+pub const CONDITION: u8 = LONG;
 
 // The role of what a row holds at a sub.
 pub fn role_at(row: u32, sub: u8) -> u8

@@ -9,7 +9,8 @@ use mathlib.Core.Path.{_≡_, refl, sym, ap, _∙_}
 use lib.Dec.{eqb}
 use lib.IntN.{natAbs}
 use Rattle.numbers.specs.Choice.{first}
-use Rattle.dictionary.specs.Rows.{width}
+use Rattle.dictionary.specs.declared.types.Kind.{Kind}
+use Rattle.dictionary.specs.declared.types.Kind.the-variants.{Unsigned8, Integer16, Unsigned16, Real32, Unsigned32}
 use Rattle.dictionary.specs.declared.types.Range.{Range}
 use Rattle.dictionary.proofs.Tabulate.{tabulate, agree}
 use Rattle.roles.specs.Roles.{chosen, ranges, ranged, uppers, lowers, Holding, said, Told}
@@ -29,8 +30,15 @@ apart n f e {r} {s} h l q =
 
 -- ---- a number for a range, and one for a neighbour by how far it is from the slot
 
+kind-mark : Kind → ℕ
+kind-mark Unsigned8 = 1
+kind-mark Integer16 = 2
+kind-mark Unsigned16 = 3
+kind-mark Real32 = 4
+kind-mark Unsigned32 = 5
+
 range-mark : Range → ℕ
-range-mark r = 1000000 * width (r .kind) + 10 * natAbs (r .low) + natAbs (r .high)
+range-mark r = 1000000 * kind-mark (r .kind) + 10 * natAbs (r .low) + natAbs (r .high)
 
 link-mark : ℕ → Link → ℕ
 link-mark slot Free = 0
@@ -92,7 +100,7 @@ near-start {role} {slot} t h = go (decLt role 15)
 
 -- far from the start all roles are told apart; a slot that is near it has one without neighbours, and the range tells
 pub role-once : {r s slot : ℕ} → Told r slot → Told s slot → r ≡ s
-unfolding tabulate place first role-mark range-mark upper-marks lower-marks ranged ranges chosen width said
+unfolding tabulate place first role-mark range-mark kind-mark upper-marks lower-marks ranged ranges chosen said
 role-once {r} {s} {slot} p q = go (decLt slot 16)
   where
     same : said r slot ≡ said s slot
@@ -103,4 +111,4 @@ role-once {r} {s} {slot} p q = go (decLt slot 16)
         apart 15 (λ role. range-mark (ranged role)) refl (near-start p h) (near-start q h) (ap (λ (h : Holding). range-mark (h .range)) same)
     go (no n) =
         let h : 16 ≤ slot = omega arith in
-        apart 31 role-mark refl (p .known) (q .known) (sym (said-mark slot h r) ∙ ap (marked slot) same ∙ said-mark slot h s)
+        apart 32 role-mark refl (p .known) (q .known) (sym (said-mark slot h r) ∙ ap (marked slot) same ∙ said-mark slot h s)

@@ -71,18 +71,18 @@ unfoldable pub held-when : (ℕ → Bool) → ℕ → ℕ → List Holding
 unfolding held-in runs
 held-when p start stop = held-in runs p start stop
 
--- a role is one of the 31, and one with neighbours is far from both ends
+-- a role is one of the 32, and one with neighbours is far from both ends
 unfoldable pub near : ℕ → ℕ → ℕ → Bool
-near role low high = ltb role 31 && (ltb role 15 || (leb 16 low && leb high 65536))
+near role low high = ltb role 32 && (ltb role 15 || (leb 16 low && leb high 65536))
 
-one-of : (role low high : ℕ) → near role low high ≡ true → role < 31
+one-of : (role low high : ℕ) → near role low high ≡ true → role < 32
 unfolding near
-one-of role low high e = ltb-true role 31 (and-eq-true-iff (ltb role 31) (ltb role 15 || (leb 16 low && leb high 65536)) .0 e .0)
+one-of role low high e = ltb-true role 32 (and-eq-true-iff (ltb role 32) (ltb role 15 || (leb 16 low && leb high 65536)) .0 e .0)
 
 nearby : {role low high slot : ℕ} → near role low high ≡ true → low ≤ slot → slot < high → 15 ≤ role → (16 ≤ slot) × (slot < 2 ^ 16)
 unfolding near
 nearby {role} {low} {high} e l h r =
-    let far = and-eq-true-iff (ltb role 31) (ltb role 15 || (leb 16 low && leb high 65536)) .0 e .1 in
+    let far = and-eq-true-iff (ltb role 32) (ltb role 15 || (leb 16 low && leb high 65536)) .0 e .1 in
     let both = and-eq-true-iff (leb 16 low) (leb high 65536) .0 (rw (le-ltb role 15 r) at far) in
     let a = leb-true 16 low (both .0) in
     let b = leb-true high 65536 (both .1) in

@@ -6,7 +6,7 @@ use mathlib.Core.List.{List, [], _∷_}
 use lib.IntN.{pos, negsuc}
 use lib.Dec.{eqb}
 use Rattle.numbers.specs.Choice.{first}
-use Rattle.dictionary.specs.Rows.{u8, u16, i16, i16-between, real32, D, source, number}
+use Rattle.dictionary.specs.Rows.{u8, u16, u32, i16, i16-between, real32, D, source, number}
 use Rattle.dictionary.specs.declared.types.Range.{Range}
 use Rattle.roles.specs.Chains.{upper-of, lower-of}
 use Rattle.roles.specs.Values.{range-of}
@@ -19,14 +19,15 @@ chosen [] other key = other
 chosen (p ∷ ps) other key = first (eqb key (p .0)) (p .1) (chosen ps other key)
 
 -- the ranges that recur in the table's rows: axis, switch, response, digits, operator, comparison, source, number, table, byte; REAL32; time;
--- hysteresis, gain, current and the two ends of a current; every other role has the whole range of INTEGER16
+-- hysteresis, gain, current and the two ends of a current; UNSIGNED32; every other role has the whole range of INTEGER16
 unfoldable pub ranges : List (ℕ × Range)
 ranges =
     (0, u8 0 0 0 .range) ∷ (1, u8 0 1 0 .range) ∷ (2, u8 0 2 0 .range) ∷ (3, D .range) ∷ (4, u8 0 4 0 .range) ∷ (5, u8 0 5 0 .range) ∷
     (6, source .range) ∷ (7, number .range) ∷ (8, u8 1 6 0 .range) ∷ (9, u8 0 255 0 .range) ∷
     (10, real32 0 .range) ∷ (11, u16 0 60000 0 .range) ∷
     (12, i16-between (pos 0) (pos 32767) 0 .range) ∷ (13, i16-between (negsuc 99) (pos 100) 0 .range) ∷
-    (14, i16-between (pos 0) (pos 2500) 0 .range) ∷ (15, i16-between (pos 0) (pos 2500) 0 .range) ∷ (16, i16-between (pos 0) (pos 2500) 0 .range) ∷ []
+    (14, i16-between (pos 0) (pos 2500) 0 .range) ∷ (15, i16-between (pos 0) (pos 2500) 0 .range) ∷ (16, i16-between (pos 0) (pos 2500) 0 .range) ∷
+    (31, u32 0 .range) ∷ []
 
 unfoldable pub ranged : ℕ → Range
 ranged role = chosen ranges (i16 0 .range) role
@@ -55,8 +56,8 @@ said role slot = record { range = ranged role; upper = chosen (uppers slot) Free
 unfoldable pub holding : ℕ → Holding
 holding slot = record { range = range-of slot; upper = upper-of slot; lower = lower-of slot }
 
--- a role is a slot's: one of the 31; and one that has neighbours is far from both ends of the numbers
+-- a role is a slot's: one of the 32; and one that has neighbours is far from both ends of the numbers
 pub record Told (role slot : ℕ) : Type 0 where
-  pub known : role < 31
+  pub known : role < 32
   pub holds : said role slot ≡ holding slot
   pub near : 15 ≤ role → (16 ≤ slot) × (slot < 2 ^ 16)

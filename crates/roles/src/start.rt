@@ -122,7 +122,7 @@ fn input_start(slot: usize) -> u32
     5000
 }
 
-// 73xxh, 2500h and what can only be read: 5010h:2 is 1.0.
+// 73xxh, 2500h, 1003h and what can only be read: 5010h:2 is 1.0.
 fn other_start(slot: usize) -> u32
     requires { ⌜ (slot-of 0x7320 1 ≤ slot) × (slot < words) ⌝ }
     ensures { λ r. ⌜ r ≡ getD starts slot 0 ⌝ }
@@ -139,7 +139,10 @@ fn other_start(slot: usize) -> u32
     if slot <= FIXED {
         return 0;
     }
-    0x3F80_0000
+    if slot < ERRORS {
+        return 0x3F80_0000;
+    }
+    0
 }
 
 fn initial(slot: usize) -> u32

@@ -73,6 +73,9 @@ pub const SPAN_LOW: u8 = 29;
 
 pub const SPAN_HIGH: u8 = 30;
 
+// UNSIGNED32, which no record of an image holds
+pub const LONG: u8 = 31;
+
 // 21xxh, 23xxh, 25xxh.
 fn settings_role(slot: usize) -> u8
     requires { ⌜ slot < slot-of 0x3010 0 ⌝ }
@@ -291,12 +294,12 @@ fn output_role(slot: usize) -> u8
     FV_HIGH
 }
 
-// 2500h and the read-only names. A slot past the last has the narrowest range there is.
+// 2500h, 1003h and the read-only names. A slot past the last has the narrowest range there is.
 fn other_role(slot: usize) -> u8
     requires { ⌜ slot-of 0x2500 1 ≤ slot ⌝ }
     ensures { λ r. ⌜ Told r slot ⌝ }
 {
-    if slot < ERROR_REGISTER {
+    if slot < ERRORS_KEPT {
         return WHOLE;
     }
     if slot < SAMPLE {
@@ -317,8 +320,11 @@ fn other_role(slot: usize) -> u8
     if slot < FIXED {
         return WHOLE;
     }
-    if slot < SIGNALS {
+    if slot < ERRORS {
         return REAL;
+    }
+    if slot < SIGNALS {
+        return LONG;
     }
     AXIS
 }

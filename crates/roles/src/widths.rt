@@ -3,6 +3,7 @@ ghost use mathlib.Core.Path.{_≡_};
 ghost use Rattle.dictionary.specs.Rows.{width};
 ghost use Rattle.roles.specs.Roles.{ranged};
 ghost use Rattle.roles.specs.Values.{range-of};
+use crate::telling::LONG;
 use crate::telling::REAL;
 use crate::telling::role_of;
 
@@ -15,6 +16,9 @@ pub fn width_of(role: u8) -> u8
     }
     if role < REAL {
         return 1;
+    }
+    if role == LONG {
+        return 4;
     }
     2
 }

@@ -1,7 +1,7 @@
 -- What the parts of an answer come to.
 -- Assumes nothing.
 use mathlib.Core.Path.{_≡_, refl, sym, ap, _∙_}
-use mathlib.Core.Bool.{Bool, true, false}
+use mathlib.Core.Bool.{Bool, true, false, _&&_}
 use mathlib.Core.List.{List, [], _∷_}
 use Prim.Native.Nat.{ℕ, _<_, _≤_}
 use native.Mathlib.Omega.{arith}
@@ -11,15 +11,15 @@ use denote.Enum.Declared.{tagOf}
 use types.Run.{OneOf, miss}
 use borrow.Author.Tests.{lt-ltb, le-ltb, eq-eqb, ne-eqb, eqb-true, eqb-false, ltb-true, ltb-false}
 use Rattle.numbers.specs.Choice.{first}
-use Rattle.dictionary.specs.Names.{find, slot-found, words, writable}
+use Rattle.dictionary.specs.Names.{slot-found, sought, words, writable}
 use Rattle.dictionary.specs.Unit.{unit-size}
 use Rattle.roles.specs.Values.{range-of}
 use Rattle.roles.proofs.widths.WidthLaws.{at-least-one, at-most-four, never-three}
 use Rattle.dictionary.specs.declared.types.Found.{Found}
 use Rattle.dictionary.specs.declared.types.Found.the-variants as found
-use Rattle.dictionary.proofs.naming.NameLaws.{found-below}
-use Rattle.entries.specs.Judge.{judged}
-use Rattle.sdo.specs.Answers.{size-of, reading, stored, offered, refused, length-of, writing, obeyed, silent, answer}
+use Rattle.dictionary.proofs.naming.Sought.{sought-below}
+use Rattle.entries.specs.Judge.{judged, is-good}
+use Rattle.sdo.specs.Answers.{size-of, reading, stored, unclear, offered, refused, length-of, writing, obeyed, silent, answer}
 use Rattle.sdo.specs.Frames.{command-of, index-in, sub-in, data-in}
 use Rattle.sdo.specs.declared.types.Abort.the-variants as abort
 use Rattle.sdo.specs.declared.types.Answer.{Answer}
@@ -28,6 +28,8 @@ use Rattle.dictionary.proofs.types.Found as FoundType
 use Rattle.sdo.specs.declared.types.Command.{Command}
 use Rattle.sdo.specs.declared.types.Command.the-variants.{Read, Write, Other}
 use Rattle.sdo.specs.declared.types.Size.{Size}
+use Rattle.entries.specs.declared.types.Verdict.{Verdict}
+use Rattle.sdo.proofs.Clearing.{soon-enough}
 
 -- ---- rows 5 to 9, for a slot
 
@@ -50,18 +52,23 @@ module _ (words frame : List ℕ) (size : Size) (slot : ℕ) where
     unfolding writing offered first
     too-short l = simp (lt-ltb slot writable h, ← e, ← told, le-ltb own n (omega arith), lt-ltb n own l)
 
-    pub fitting : n ≡ own → (word : ℕ) → word ≡ data-in own frame → stored slot word (judged words slot word) ≡ writing words frame size (found.At slot)
+    pub in-full : n ≡ own → (word : ℕ) → word ≡ data-in own frame
+        → first (unclear slot word) (Aborted abort.NotClear) (stored slot word (judged words slot word)) ≡ writing words frame size (found.At slot)
     unfolding writing offered first
-    fitting same word d = simp (lt-ltb slot writable h, ← e, ← told, same, le-ltb own own (omega arith), ← d)
+    in-full same word d = simp (lt-ltb slot writable h, ← e, ← told, same, le-ltb own own (omega arith), ← d)
+
+    pub fitting : n ≡ own → (word : ℕ) → word ≡ data-in own frame → (v : Verdict) → v ≡ judged words slot word
+        → first (is-good v && unclear slot word) (Aborted abort.NotClear) (stored slot word v) ≡ writing words frame size (found.At slot)
+    fitting same word d v judge = soon-enough words slot word v judge ∙ in-full same word d
 
 -- ---- a name that is found stands in the unit
 
 pub in-unit : {f : Found} {slot : ℕ} → slot-found f < unit-size → f ≡ found.At slot → slot < unit-size
 in-unit h e = rw e at h
 
-pub found-in-unit : (index sub : ℕ) (f : Found) → f ≡ find index sub → slot-found f < unit-size
+pub found-in-unit : (unit : List ℕ) (index sub : ℕ) (f : Found) → f ≡ sought unit index sub → slot-found f < unit-size
 unfolding unit-size words
-found-in-unit index sub f e = let h = found-below index sub f e in omega arith
+found-in-unit unit index sub f e = let h = sought-below unit index sub f e in omega arith
 
 -- ---- a name that is no entry's: told by the case's number
 
@@ -79,9 +86,9 @@ module _ (words frame : List ℕ) (c : Command) (e : c ≡ command-of (getD fram
   unfolding obeyed
   other-command q = rw (← e, q)
 
-  module _ (index sub : ℕ) (f : Found) (i : index ≡ index-in frame) (s : sub ≡ sub-in frame) (at : f ≡ find index sub) where
-    named-is : f ≡ find (index-in frame) (sub-in frame)
-    named-is = at ∙ ap (λ (x : ℕ). find x sub) i ∙ ap (find (index-in frame)) s
+  module _ (index sub : ℕ) (f : Found) (i : index ≡ index-in frame) (s : sub ≡ sub-in frame) (at : f ≡ sought words index sub) where
+    named-is : f ≡ sought words (index-in frame) (sub-in frame)
+    named-is = at ∙ ap (λ (x : ℕ). sought words x sub) i ∙ ap (sought words (index-in frame)) s
 
     pub a-read : c ≡ Read → reading words f ≡ obeyed words frame (command-of (getD frame 0 0))
     unfolding obeyed

@@ -1,3 +1,4 @@
 pub mod AnswerLaws
+pub mod Clearing
 pub mod FrameLaws
 pub mod ReplyLaws

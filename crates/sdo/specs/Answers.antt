@@ -1,12 +1,12 @@
 -- The answer to a frame: the table of "Frames", first match.
 -- Assumes nothing.
 use Prim.Native.Nat.{ℕ}
-use mathlib.Core.Bool.{Bool, _||_, not}
+use mathlib.Core.Bool.{Bool, _&&_, _||_, not}
 use mathlib.Core.List.{List}
 use lib.Dec.{eqb, ltb}
 use lib.ListN.{length, getD}
 use Rattle.numbers.specs.Choice.{first}
-use Rattle.dictionary.specs.Names.{find, writable}
+use Rattle.dictionary.specs.Names.{slot-of, sought, writable}
 use Rattle.dictionary.specs.Rows.{width}
 use Rattle.dictionary.specs.declared.types.Found.{Found}
 use Rattle.dictionary.specs.declared.types.Found.the-variants as found
@@ -44,12 +44,17 @@ stored slot word verdict.Below = Aborted abort.Below
 stored slot word verdict.ChainUp = Aborted abort.ChainUp
 stored slot word verdict.ChainDown = Aborted abort.ChainDown
 
--- "5 write to a read-only name; 6 longer, shorter than the type"
+-- 1003h:0 (document 02, viii): "0 clears the whole list"; "another value at sub 0 gives 06090030h, after order 6"
+unfoldable pub unclear : ℕ → ℕ → Bool
+unclear slot word = eqb slot (slot-of 0x1003 0) && not (eqb word 0)
+
+-- "5 write to a read-only name; 6 longer, shorter than the type"; then 1003h:0
 unfoldable pub offered : List ℕ → ℕ → ℕ → ℕ → Answer
 offered words slot size word =
     first (not (ltb slot writable)) (Aborted abort.ReadOnly)
     (first (ltb (size-of slot) size) (Aborted abort.TooLong)
-    (first (ltb size (size-of slot)) (Aborted abort.TooShort) (stored slot word (judged words slot word))))
+    (first (ltb size (size-of slot)) (Aborted abort.TooShort)
+    (first (unclear slot word) (Aborted abort.NotClear) (stored slot word (judged words slot word)))))
 
 -- a name that is no entry's cannot be written: "sub 0 is the largest sub-index (UNSIGNED8, read only)"
 unfoldable pub refused : Found → Answer
@@ -73,8 +78,8 @@ writing words frame size (found.At slot) = let length = length-of size (size-of 
 -- "2 other command byte", then by the command
 unfoldable pub obeyed : List ℕ → List ℕ → Command → Answer
 obeyed words frame Other = Aborted abort.Command
-obeyed words frame Read = reading words (find (index-in frame) (sub-in frame))
-obeyed words frame (Write size) = writing words frame size (find (index-in frame) (sub-in frame))
+obeyed words frame Read = reading words (sought words (index-in frame) (sub-in frame))
+obeyed words frame (Write size) = writing words frame size (sought words (index-in frame) (sub-in frame))
 
 -- "1 frame not 8 long, reply buffer under 8, or command 80h: no reply"
 unfoldable pub silent : List ℕ → ℕ → Bool

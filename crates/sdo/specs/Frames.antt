@@ -47,6 +47,7 @@ code abort.NoSub = 0x06090011
 code abort.ReadOnly = 0x06010002
 code abort.TooLong = 0x06070012
 code abort.TooShort = 0x06070013
+code abort.NotClear = 0x06090030
 code abort.NotFinite = 0x06090030
 code abort.Above = 0x06090031
 code abort.Below = 0x06090032

@@ -2,9 +2,12 @@
 ghost use mathlib.Core.Path.{_≡_};
 ghost use Prim.Native.Nat.{_<_};
 ghost use lib.ListN.{length, getD};
+ghost use mathlib.Core.Bool.{_&&_};
+ghost use Rattle.numbers.specs.Choice.{first};
+ghost use Rattle.entries.specs.Judge.{is-good};
 ghost use Rattle.dictionary.specs.Names.{slot-found};
 ghost use Rattle.dictionary.specs.Unit.{unit-size};
-ghost use Rattle.sdo.specs.Answers.{reading, stored, length-of, refused, writing, obeyed, answer};
+ghost use Rattle.sdo.specs.Answers.{reading, stored, unclear, length-of, refused, writing, obeyed, answer};
 ghost use Rattle.sdo.specs.Frames.{command-of};
 use super::data::command;
 use super::data::data_in;
@@ -16,6 +19,7 @@ use super::types::Command;
 use super::types::Size;
 use dictionary::naming::find;
 use dictionary::slots::ERROR_REGISTER;
+use dictionary::slots::ERRORS_KEPT;
 use dictionary::slots::Unit;
 use dictionary::types::Found;
 use entries::judging::judge;
@@ -34,11 +38,26 @@ fn read(unit: &Unit, found: Found) -> Answer
     }
 }
 
+fn is_unclear(slot: usize, word: u32) -> bool
+    ensures { λ r. ⌜ r ≡ unclear slot word ⌝ }
+{
+    if slot == ERRORS_KEPT {
+        return word != 0;
+    }
+    false
+}
+
 fn store(slot: usize, word: u32, verdict: Verdict) -> Answer
-    ensures { λ r. ⌜ r ≡ stored slot word verdict ⌝ }
+    ensures { λ r. ⌜ r ≡ first (is-good verdict && unclear slot word) (Answer.Aborted Abort.NotClear) (stored slot word verdict) ⌝ }
 {
     match verdict {
-        Verdict::Good => Answer::Written(slot, word),
+        // any byte is good for 1003h:0, so this is soon enough
+        Verdict::Good => {
+            if is_unclear(slot, word) {
+                return Answer::Aborted(Abort::NotClear);
+            }
+            Answer::Written(slot, word)
+        }
         Verdict::NotFinite => Answer::Aborted(Abort::NotFinite),
         Verdict::Above => Answer::Aborted(Abort::Above),
         Verdict::Below => Answer::Aborted(Abort::Below),
@@ -61,7 +80,7 @@ fn offer(unit: &Unit, frame: &[u8], size: Size, slot: usize) -> Answer
     requires { ⌜ length (now frame) ≡ 8 ⌝ }
     ensures { λ r. ⌜ r ≡ writing (now (unit .entry)) (now (frame .entry)) size (Found.At slot) ⌝ }
 {
-    // the configuration and the EC values come first
+    // the configuration, the EC values and 1003h:0 come first
     if ERROR_REGISTER <= slot {
         return Answer::Aborted(Abort::ReadOnly);
     }
@@ -103,7 +122,7 @@ fn obey(unit: &Unit, frame: &[u8]) -> Answer
     requires { ⌜ length (now frame) ≡ 8 ⌝ }
     ensures { λ r. ⌜ r ≡ obeyed (now (unit .entry)) (now (frame .entry)) (command-of (getD (now (frame .entry)) 0 0)) ⌝ }
 {
-    let found = find(index_in(frame), sub_in(frame));
+    let found = find(unit, index_in(frame), sub_in(frame));
     let command = command(frame[0]);
     match command {
         Command::Other => Answer::Aborted(Abort::Command),

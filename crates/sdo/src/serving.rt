@@ -20,6 +20,7 @@ fn code_of(abort: Abort) -> u32
         Abort::ReadOnly => 0x0601_0002,
         Abort::TooLong => 0x0607_0012,
         Abort::TooShort => 0x0607_0013,
+        Abort::NotClear => 0x0609_0030,
         Abort::NotFinite => 0x0609_0030,
         Abort::Above => 0x0609_0031,
         Abort::Below => 0x0609_0032,

@@ -1,6 +1,6 @@
 // What a frame is answered.
 
-// Why a frame is aborted, in the order of the paper's rows.
+// Why a frame is aborted, in the order of the rows.
 pub enum Abort {
     Command,
     NoIndex,
@@ -8,6 +8,8 @@ pub enum Abort {
     ReadOnly,
     TooLong,
     TooShort,
+    // 1003h:0 takes no value but 0
+    NotClear,
     NotFinite,
     Above,
     Below,

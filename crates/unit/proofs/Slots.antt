@@ -35,7 +35,7 @@ module _ (index : ℕ) {slot last : ℕ} (e : stretch index 1 last slot ≡ has 
   pub array-sub : (n : ℕ) → 0 < n → n ≤ last → slot-of index n ≡ slot + n - 1
   unfolding slot-of has meant
   array-sub n low high =
-      sym (ap slot-found (array-value slot last n (omega arith) (λ z. omega arith) high ∙ by-object (Array slot last) (Array slot last) index n refl (record { are = e }))) ∙ omega arith
+      sym (ap slot-found (array-value slot last n (λ z. omega arith) high ∙ by-object (Array slot last) (Array slot last) index n refl (record { are = e }))) ∙ omega arith
 
   pub array : (k : ℕ) → k < last → slot-of index (k + 1) ≡ slot + k
   array k h = array-sub (k + 1) (omega arith) (omega arith) ∙ omega arith
@@ -64,6 +64,11 @@ module _ {configured fixed : ℕ} (e : two-stretches configured fixed ≡ has 0x
   pub constant : 3 ≤ n → n ≤ 15 → slot-of 0x5010 n ≡ configured + n - 3
   unfolding named at-sub largest first
   constant low high = by-stretches ∙ simp (ne-eqb n 0 (λ q. omega arith), le-leb 3 n low, le-leb n 15 high) (omega arith)
+
+-- the number of errors kept stands behind the EC values, the errors behind all else
+pub error-slots : (slot-of 0x1003 0 ≡ 623) × (slot-of 0x1003 1 ≡ 653)
+unfolding slot-of
+error-slots = (refl, refl)
 
 -- ---- the families
 

@@ -7,14 +7,14 @@ use Prim.Native.Nat.{ℕ, _+_, _-_, _<_, _≤_, max}
 use native.Mathlib.Nat.{add-zero}
 use native.Mathlib.Omega.{arith}
 use lib.Dec.{eqb, ltb, leb, lit<}
-use borrow.Author.Tests.{ltb-true, leb-true, eqb-true, ne-eqb, lt-ltb, le-leb, lt-leb}
+use borrow.Author.Tests.{ltb-true, leb-true, eqb-true, ne-eqb, le-leb, lt-leb}
 use Rattle.numbers.specs.Choice.{first}
-use Rattle.dictionary.specs.Names.{Stretch, stretches, with-index, largest, at-sub, named, find, slot-of, slot-found, configured, writable, words, configured-bytes}
+use Rattle.dictionary.specs.Names.{Stretch, stretches, with-index, largest, at-sub, named, find, slot-of, slot-found, configured, received-to, writable, words, configured-bytes}
 use Rattle.dictionary.specs.Objects.{meant, Rows}
 use Rattle.dictionary.specs.declared.types.Found.{Found}
 use Rattle.dictionary.specs.declared.types.Found.the-variants.{NoIndex, NoSub, Count, At}
 use Rattle.dictionary.specs.declared.objects.Object.{Object}
-use Rattle.dictionary.specs.declared.objects.Object.the-variants.{Unknown, Var, Array, Constants}
+use Rattle.dictionary.specs.declared.objects.Object.the-variants.{Unknown, Var, Array, Constants, Errors}
 
 -- ---- a test that each stretch passes, those with one index among them
 
@@ -42,6 +42,7 @@ unnamed Unknown i j sub = refl
 unnamed (Var slot) i j sub = refl
 unnamed (Array slot last) i j sub = refl
 unnamed Constants i j sub = refl
+unnamed Errors i j sub = refl
 
 -- so the code's short account of an index, r, gives what the index names
 pub by-object : (r o : Object) (index sub : ℕ) → r ≡ o → Rows r index → named (meant o 0) sub ≡ find index sub
@@ -66,7 +67,7 @@ array-of r slot last index q e =
     let two = and-eq-true-iff (ltb slot 1000) (leb 1 last) .0 sized in
     (ltb-true slot 1000 (two .0), leb-true 1 last (two .1))
 
--- ---- what the subs of a VAR, of an ARRAY and of the constants name
+-- ---- what the subs of a VAR, of an ARRAY, of the constants and of the errors name
 
 pub var-value : (slot sub : ℕ) → sub ≡ 0 → At slot ≡ named (meant (Var slot) 0) sub
 unfolding named meant largest at-sub first
@@ -76,12 +77,12 @@ pub var-none : (slot sub : ℕ) → (sub ≡ 0 → ⊥) → NoSub ≡ named (mea
 unfolding named meant largest at-sub first
 var-none slot sub n = simp (ne-eqb sub 0 n, lt-leb sub 0 (omega arith), and-false)
 
-module _ (slot last sub : ℕ) (some : 0 < last) where
+module _ (slot last sub : ℕ) where
   pub array-count : sub ≡ 0 → Count last ≡ named (meant (Array slot last) 0) sub
   unfolding named meant largest at-sub first
   array-count e =
       let m : max last 0 ≡ last = omega arith in
-      rw e (simp (m, lt-ltb 0 last some))
+      rw e (simp m)
 
   pub array-value : (sub ≡ 0 → ⊥) → sub ≤ last → At (slot + (sub - 1)) ≡ named (meant (Array slot last) 0) sub
   unfolding named meant largest at-sub first
@@ -108,6 +109,19 @@ module _ (sub : ℕ) where
   unfolding named meant largest at-sub first
   constants-none h =
       simp (ne-eqb sub 0 (λ e. omega arith), lt-leb sub 15 h, lt-leb sub 2 (omega arith), and-false)
+
+module _ (sub : ℕ) where
+  pub errors-kept : sub ≡ 0 → At (slot-of 0x1003 0) ≡ named (meant Errors 0) sub
+  unfolding named meant largest at-sub first
+  errors-kept e = rw e (ap At (sym (add-zero (slot-of 0x1003 0))))
+
+  pub errors-value : (sub ≡ 0 → ⊥) → sub ≤ 8 → At (slot-of 0x1003 1 + (sub - 1)) ≡ named (meant Errors 0) sub
+  unfolding named meant largest at-sub first
+  errors-value n h = simp (ne-eqb sub 0 n, lt-leb sub 0 (omega arith), and-false, le-leb 1 sub (omega arith), le-leb sub 8 h)
+
+  pub errors-none : 8 < sub → NoSub ≡ named (meant Errors 0) sub
+  unfolding named meant largest at-sub first
+  errors-none h = simp (ne-eqb sub 0 (λ e. omega arith), lt-leb sub 0 (omega arith), lt-leb sub 8 h, and-false)
 
 -- ---- the stretch that a name is found in
 
@@ -164,7 +178,7 @@ module _ (p : Stretch → Bool) (index sub slot : ℕ) where
       go : (ss : List Stretch) → every q ss ≡ true → named ss sub ≡ At slot → Picked p index sub slot
       go [] t r = absurd (let z : _≡_ {A = ℕ} 0 1 = cc in omega arith)
       go (s ∷ ss) t r =
-          at-sub-picked (s ∷ ss) t (choose (eqb sub 0 && ltb 0 (largest (s ∷ ss))) (largest (s ∷ ss)) (at-sub (s ∷ ss) sub) r)
+          at-sub-picked (s ∷ ss) t (choose (eqb sub 0 && ltb 0 (s .from)) (largest (s ∷ ss)) (at-sub (s ∷ ss) sub) r)
 
 -- every slot that a name has is one of the dictionary's words
 below-words : Stretch → Bool
@@ -188,6 +202,6 @@ found-below index sub (At slot) e =
     omega arith
 
 -- "That is 611 entries with 926 bytes of data"
-pub counted : (configured ≡ 611) × (writable ≡ 623) × (words ≡ 652) × (configured-bytes ≡ 926)
-unfolding configured writable words configured-bytes
-counted = (refl, refl, refl, refl)
+pub counted : (configured ≡ 611) × (writable ≡ 624) × (words ≡ 661) × (configured-bytes ≡ 926) × (received-to ≡ 623)
+unfolding configured received-to writable words configured-bytes
+counted = (refl, refl, refl, refl, refl)

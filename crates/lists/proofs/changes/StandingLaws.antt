@@ -9,7 +9,7 @@ use lib.ListN.{length, getD, take, drop, length-drop}
 use lib.Seq.{drop-drop, length-take-le}
 use Rattle.dictionary.specs.Rows.{width}
 use Rattle.dictionary.specs.declared.types.Kind.{Kind}
-use Rattle.dictionary.specs.declared.types.Kind.the-variants.{Unsigned8, Integer16, Unsigned16, Real32}
+use Rattle.dictionary.specs.declared.types.Kind.the-variants.{Unsigned8, Integer16, Unsigned16, Real32, Unsigned32}
 use Rattle.records.specs.Layout.{Listed, listed, size, entry, offset, record-in}
 use Rattle.records.specs.Walk.{size-in, data-in}
 use Rattle.records.specs.declared.types.Outcome.the-variants.{Good}
@@ -27,6 +27,7 @@ at-least-one Unsigned8 = omega arith
 at-least-one Integer16 = omega arith
 at-least-one Unsigned16 = omega arith
 at-least-one Real32 = omega arith
+at-least-one Unsigned32 = omega arith
 
 offset-next : (es : List Listed) (slot : ℕ) → slot < length es → offset es (suc slot) ≡ offset es slot + 7 + size (entry es slot)
 unfolding offset entry

@@ -7,7 +7,7 @@ use Rattle.dictionary.proofs.naming.in_array.Statement.{statement}
 use Rattle.dictionary.proofs.naming.in_array.Tie as tie
 
 returns : tie.Need-returns
-returns c = array-count _ _ _ (omega arith) (c .if1 .taken)
+returns c = array-count _ _ _ (c .if1 .taken)
 
 sub-t6 : tie.Need-sub-t6
 sub-t6 c = search needs
@@ -16,10 +16,10 @@ add-t7 : tie.Need-add-t7
 add-t7 c = search needs
 
 returns-2 : tie.Need-returns-2
-returns-2 c = array-value _ _ _ (omega arith) (λ e. omega arith) (omega arith)
+returns-2 c = array-value _ _ _ (λ e. omega arith) (omega arith)
 
 returns-3 : tie.Need-returns-3
-returns-3 c = array-none _ _ _ (omega arith) (λ e. omega arith) (omega arith)
+returns-3 c = array-none _ _ _ (λ e. omega arith) (omega arith)
 
 pub in-array-spec : {M : Type 1} → statement M
 in-array-spec = tie.close (tie.spec returns sub-t6 add-t7 returns-2 returns-3)

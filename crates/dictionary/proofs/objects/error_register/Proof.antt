@@ -14,8 +14,12 @@ unfolding stretches with-index meant first
 returns c = here 0x1000 (c .match .keys1) refl
 
 returns-2 : tie.Need-returns-2
+unfolding stretches with-index meant first
+returns-2 c = here 0x1000 (c .match .keys2) refl
+
+returns-3 : tie.Need-returns-3
 unfolding stretches with-part last-digits first
-returns-2 c = no-row 0x10 _ (omega arith) (c .match .rest)
+returns-3 c = no-row 0x10 _ (omega arith) (c .match .rest, c .match .rest .0 .1)
 
 pub error-register-spec : {M : Type 1} → statement M
-error-register-spec = tie.close (tie.spec returns returns-2)
+error-register-spec = tie.close (tie.spec returns returns-2 returns-3)

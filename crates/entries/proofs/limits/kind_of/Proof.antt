@@ -24,7 +24,11 @@ unfolding ranged ranges chosen first
 returns-3 c = rw (c .if3 .taken)
 
 returns-4 : tie.Need-returns-4
-returns-4 c = kind-whole (omega arith)
+unfolding ranged ranges chosen first
+returns-4 c = rw (c .if4 .taken)
+
+returns-5 : tie.Need-returns-5
+returns-5 c = kind-whole (omega arith) (c .if4 .left)
 
 pub kind-of-spec : {M : Type 1} → statement M
-kind-of-spec = tie.close (tie.spec returns returns-2 returns-3 returns-4)
+kind-of-spec = tie.close (tie.spec returns returns-2 returns-3 returns-4 returns-5)

@@ -35,6 +35,9 @@ cast-result-3 c = rw (toZ-ofZ (sfits-of (c .signed .ok))) (sfits-of (lt-trans (c
 enum-told-4 : tie.Need-enum-told-4
 enum-told-4 c = search needs
 
+enum-told-5 : tie.Need-enum-told-5
+enum-told-5 c = search needs
+
 returns : tie.Need-returns
 unfolding number-of
 returns c = rw (c .enum-told .given .1) (toZ-pos w32 (omega arith))
@@ -57,6 +60,10 @@ returns-4 : tie.Need-returns-4
 unfolding number-of
 returns-4 c = rw (c .enum-told4 .given .1)
 
+returns-5 : tie.Need-returns-5
+unfolding number-of
+returns-5 c = rw (c .enum-told5 .given .1)
+
 pub number-spec : {M : Type 1} → statement M
 number-spec =
     tie.close
@@ -69,7 +76,9 @@ number-spec =
     signed-requires
     cast-result-3
     enum-told-4
+    enum-told-5
     returns
     returns-2
     returns-3
-    returns-4)
+    returns-4
+    returns-5)

@@ -33,7 +33,7 @@ after : (s : tie.After-sense Inv-loop μ-loop) → let at = s .before .before .b
     s .sense .result ≡ sensed (settings u (k + 1)) (memory u (k + 1)) (getD (at .before .args .t2) k (pos 0))
 after s = let at = s .before .before .before .before .before .before .before in
     let given : SFits w16 (getD (at .before .args .t2) (at .loop .row) (pos 0)) = search needs in
-    rw (← s .before .memory .ensures, ← s .before .before .before .settings-of .ensures) (s .sense .ensures ∙ rw (toZ-ofZ given))
+    rw (← s .before .before .before .memory .ensures, ← s .before .settings-of .ensures) (s .sense .ensures ∙ rw (toZ-ofZ given))
 
 loop-holds : tie.Need-loop-holds Inv-loop μ-loop
 unfolding each
@@ -48,11 +48,11 @@ mul-sample c = search needs
 array-copy-out-sample : tie.Need-array-copy-out-sample Inv-loop μ-loop
 array-copy-out-sample c = search needs
 
-settings-of-requires : tie.Need-settings-of-requires Inv-loop μ-loop
-settings-of-requires c κs = search needs
-
 memory-requires : tie.Need-memory-requires Inv-loop μ-loop
 memory-requires c κs = search needs
+
+settings-of-requires : tie.Need-settings-of-requires Inv-loop μ-loop
+settings-of-requires c κs = search needs
 
 sense-requires : tie.Need-sense-requires Inv-loop μ-loop
 sense-requires c κs = search needs
@@ -84,6 +84,9 @@ element-write-unit-2 c = search needs
 lay-requires : tie.Need-lay-requires Inv-loop μ-loop
 lay-requires c κs = search needs
 
+note-requires : tie.Need-note-requires Inv-loop μ-loop
+note-requires c κs = search needs
+
 remember-requires : tie.Need-remember-requires Inv-loop μ-loop
 remember-requires c κs = search needs
 
@@ -95,7 +98,7 @@ loop-less c = search needs
 
 loop-again : tie.Need-loop-again Inv-loop μ-loop
 unfolding inputTurn publish lay has
-loop-again c = let s = c .before .before .before .before .before .before .before .before in
+loop-again c = let s = c .before .before .before .before .before .before .before .before .before .before in
     let at = s .before .before .before .before .before .before .before in
     let k = at .loop .row in
     let samples = at .before .args .t2 in
@@ -112,12 +115,14 @@ loop-again c = let s = c .before .before .before .before .before .before .before
             zero-add k,
             array 0x7100 refl k h,
             array 0x7130 refl k h,
-            c .before .before .lay .ensures,
-            c .before .before .before .before .before .before .pattern .ensures,
-            c .before .before .before .before .pattern2 .ensures,
+            c .before .before .note .ensures,
+            c .before .before .before .before .lay .ensures,
+            c .before .before .before .before .before .before .before .before .pattern .ensures,
+            c .before .before .before .before .before .before .pattern2 .ensures,
             toZ-ofZ given,
             toZ-ofZ fits,
             after s,
+            s .before .before .before .memory .ensures,
           ),
     )
 
@@ -134,8 +139,8 @@ inputs-spec =
     cast-k
     mul-sample
     array-copy-out-sample
-    settings-of-requires
     memory-requires
+    settings-of-requires
     sense-requires
     pattern-requires
     add-unit
@@ -146,6 +151,7 @@ inputs-spec =
     mul-unit-2
     element-write-unit-2
     lay-requires
+    note-requires
     remember-requires
     add-row
     loop-less

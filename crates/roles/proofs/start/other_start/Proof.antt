@@ -25,7 +25,11 @@ returns-4 c = starts-on 0 (c .before .if3 .left) (le-lt (c .if4 .taken)) refl
 
 returns-5 : tie.Need-returns-5
 unfolding rule-when starts-when slot-of words
-returns-5 c = starts-on 0x3F800000 (c .if4 .left) (c .before .before .before .before .pre .1) refl
+returns-5 c = starts-on 0x3F800000 (c .before .if4 .left) (c .if5 .taken) refl
+
+returns-6 : tie.Need-returns-6
+unfolding rule-when starts-when slot-of words
+returns-6 c = starts-on 0 (c .if5 .left) (c .before .before .before .before .before .pre .1) refl
 
 pub other-start-spec : {M : Type 1} → statement M
-other-start-spec = tie.close (tie.spec returns returns-2 returns-3 returns-4 returns-5)
+other-start-spec = tie.close (tie.spec returns returns-2 returns-3 returns-4 returns-5 returns-6)

@@ -39,8 +39,12 @@ unfolding told-when held-when near slot-of
 returns-8 c = on 10 (c .before .if7 .left) (c .if8 .taken) refl refl
 
 returns-9 : tie.Need-returns-9
+unfolding told-when held-when near slot-of
+returns-9 c = on 31 (c .before .if8 .left) (c .if9 .taken) refl refl
+
+returns-10 : tie.Need-returns-10
 unfolding ends-at
-returns-9 c = past-all (c .if8 .left) refl
+returns-10 c = past-all (c .if9 .left) refl
 
 pub other-role-spec : {M : Type 1} → statement M
 other-role-spec =
@@ -54,4 +58,5 @@ other-role-spec =
     returns-6
     returns-7
     returns-8
-    returns-9)
+    returns-9
+    returns-10)

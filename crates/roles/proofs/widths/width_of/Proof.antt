@@ -17,7 +17,11 @@ returns-2 : tie.Need-returns-2
 returns-2 c = one-wide (c .if2 .taken)
 
 returns-3 : tie.Need-returns-3
-returns-3 c = two-wide (omega arith)
+unfolding width ranged ranges chosen first
+returns-3 c = rw (c .if3 .taken)
+
+returns-4 : tie.Need-returns-4
+returns-4 c = two-wide (omega arith) (c .if3 .left)
 
 pub width-of-spec : {M : Type 1} → statement M
-width-of-spec = tie.close (tie.spec returns returns-2 returns-3)
+width-of-spec = tie.close (tie.spec returns returns-2 returns-3 returns-4)

@@ -29,7 +29,7 @@ enum-told-2 : tie.Need-enum-told-2
 enum-told-2 c = search needs
 
 read-requires : tie.Need-read-requires
-read-requires c κs = found-in-unit _ _ _ (c .before .before .before .before .find .ensures)
+read-requires c κs = found-in-unit _ _ _ _ (c .before .before .before .before .find .ensures)
 
 enum-known-command : tie.Need-enum-known-command
 enum-known-command c = search needs

@@ -1,10 +1,10 @@
 -- `deciding::offer` meets its contract: each return is the row that its tests choose (`AnswerLaws`).
 -- Assumes nothing.
-use mathlib.Core.Path.{_∙_, ap}
+use mathlib.Core.Path.{_∙_}
 use native.Mathlib.Omega.{arith}
 use borrow.Author.Needs.{needs}
 use Rattle.dictionary.specs.Names.{writable}
-use Rattle.sdo.specs.Answers.{stored, size-of}
+use Rattle.sdo.specs.Answers.{size-of}
 use Rattle.sdo.proofs.AnswerLaws.{own-bytes, read-only, too-long, too-short, fitting}
 use Rattle.sdo.proofs.deciding.offer.Statement.{statement}
 use Rattle.sdo.proofs.deciding.offer.Tie as tie
@@ -50,8 +50,8 @@ returns-4 c =
     let read = at .before .before in
     let told = read .before .before in
     let own = told .before in
-    c .store .ensures ∙ ap (stored _ _) (at .judge .ensures)
-    ∙ fitting _ _ _ _ (own .before .if1 .left) _ _ (own .width .ensures) (told .length-of .ensures) (omega arith) _ (read .data-in .ensures)
+    c .store .ensures
+    ∙ fitting _ _ _ _ (own .before .if1 .left) _ _ (own .width .ensures) (told .length-of .ensures) (omega arith) _ (read .data-in .ensures) _ (at .judge .ensures)
 
 pub offer-spec : {M : Type 1} → statement M
 offer-spec =
