@@ -14,7 +14,7 @@ use mir.Syntax.{w16}
 use mir.Val.{SFits}
 use Rattle.numbers.specs.Order.{below}
 use Rattle.numbers.proofs.Orders.{below-is-lt}
-use Rattle.dictionary.specs.Names.{slot-of, received-to}
+use Rattle.dictionary.specs.Names.{slot-of, received-to, writable}
 use Rattle.dictionary.specs.Unit.{ramps-at, ramp-count-at, ramp-start-at, ramp-rising-at, ramp-fv1-at, ramp-fv2-at, ramp-used-at, unit-size}
 use Rattle.dictionary.proofs.naming.NameLaws.{counted}
 use Rattle.output.specs.Output.{driven}

@@ -44,12 +44,12 @@ unlisted (after h g) = (λ e. omega (arith, kept-last, fixed-last, counted), λ 
 spared : {slot : ℕ} → Unpublished slot → (j : ℕ) → Spared slot j
 unfolding place signals-at runs-at flags-at ramps-at
 spared u j = let h = in-words u in record {
-      unpublished = apart u j;
-      memory = λ l. (λ e. omega arith, λ e. omega arith);
-      signal = λ l. (λ e. omega arith, λ e. omega arith);
-      ramp = λ l q w g e. omega arith;
-      unlisted = λ l. unlisted u;
-    }
+  unpublished = apart u j;
+  memory = λ l. (λ e. omega arith, λ e. omega arith);
+  signal = λ l. (λ e. omega arith, λ e. omega arith);
+  ramp = λ l q w g e. omega arith;
+  unlisted = λ l. unlisted u;
+}
 
 pub configured-kept : (slot : ℕ) → slot < configured → Unpublished slot
 configured-kept slot h = before {slot = slot} (omega (arith, counted))
