@@ -12,6 +12,9 @@ use Rattle.promises.proofs.Images as Images
 use Rattle.promises.proofs.ImageRefusals as ImageRefusals
 use Rattle.promises.proofs.Restoring as Restoring
 use Rattle.promises.proofs.Running as Running
+use Rattle.promises.proofs.NotBelow as NotBelow
+use Rattle.promises.proofs.Spool as Spool
+use Rattle.spool.proofs.Coils as Coils
 use Rattle.promises.proofs.Ticking as Ticking
 use Rattle.controller.proofs.Off as Off
 use Rattle.promises.proofs.Trap as Trap
@@ -104,4 +107,14 @@ asked-for =
       by-way = ByWay.by-way;
       cost-of-the-way = ByWay.cost-of-the-way;
       same-end = ByWay.same-end;
+      spool-only-these = Spool.only-these;
+      spool-only-after-0 = Coils.only-after-0;
+      spool-never-both = Spool.never-both-above;
+      spool-sent-on = Spool.sent-on;
+      spool-core-as-before = Spool.core-as-before;
+      spool-only-ticks-send = Spool.only-ticks-send;
+      commands-not-below-0 = NotBelow.commands-not-below-0;
+      spool-change-over = Spool.change-over;
+      spool-waits = Spool.waits-for-the-other;
+      spool-goes-next = Spool.goes-next;
     }

@@ -10,6 +10,7 @@ pub mod Images
 pub mod Judged
 pub mod ListFrames
 pub mod Listed
+pub mod NotBelow
 pub mod Proper
 pub mod Reached
 pub mod ReadBack
@@ -19,6 +20,7 @@ pub mod Running
 pub mod Serving
 pub mod Slots
 pub mod Spent
+pub mod Spool
 pub mod Ticking
 pub mod Trap
 pub mod Underway

@@ -9,5 +9,6 @@ pub mod Images
 pub mod Restoring
 pub mod Running
 pub mod Serving
+pub mod Spool
 pub mod Ticking
 pub mod Trap
