@@ -26,12 +26,12 @@ class Lever:
         return sessions.write_line(self.names.entry(index, sub), value)
 
     def table(self, z, points):
-        """X from EC 1 and these points, the last for all that are left; X rises, so the last are written first."""
+        """X from EC 1 and these points, the last for all that are left; the first X falls, the others mostly rise, so the last of them are written first."""
         points = points + [points[-1]] * (11 - len(points))
         base = 0x3000 + 0x10 * z
         yield self.set(base, 0, 1)
         yield self.set(base + 1, 0, 1)
-        for sub in range(11, 0, -1):
+        for sub in (1, *range(11, 1, -1)):
             yield self.set(base + 5, sub, points[sub - 1][0])
         for sub in range(1, 12):
             yield self.set(base + 6, sub, points[sub - 1][1])
