@@ -33,7 +33,7 @@ C += ["-ffunction-sections", "-fdata-sections"]  # as the crates' objects are, s
 
 def compiled(source, out, *words):
     OUT.mkdir(parents=True, exist_ok=True)
-    headers = (HERE, HERE / "include", ROOT / "crates" / "firmware", ROOT / "crates" / "gateway")
+    headers = (HERE, HERE / "include", *(ROOT / "crates" / crate for crate in chips.HEADERS))
     places = ["-I%s" % place for place in headers]
     subprocess.run([TOOLS / "clang", *C, *places, *words, "-c", source, "-o", OUT / out], check=True)
     return OUT / out

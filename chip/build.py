@@ -1,6 +1,6 @@
 """Builds the libraries for a chip from the module that was proved: target/chip/CHIP/ has them and their headers.
 
-    ./run chip CHIP         both libraries for the chip
+    ./run chip CHIP         the libraries for the chip
     ./run chip              the chips
 
 The kit lowers a library to one LLVM module and compiles that for x86-64 by the clang beside it. Here the module is kept on
@@ -22,7 +22,7 @@ import tempfile
 ROOT = pathlib.Path(__file__).resolve().parent.parent
 OUT = ROOT / "target" / "chip"
 LIBRARIES = ROOT / "target" / "staticlib"
-HEADERS = {"firmware": "valve.h", "gateway": "restore_list.h"}
+HEADERS = {"firmware": "valve.h", "spool": "spool.h", "gateway": "restore_list.h"}
 
 # What clang is told of each chip. No call takes or gives a REAL32, so the hard and the soft convention call alike.
 CHIPS = {

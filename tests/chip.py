@@ -21,6 +21,7 @@ import images
 import images_cases
 import lists
 import lists_cases
+import spool
 
 HERE = pathlib.Path(__file__).resolve().parent
 ROOT = HERE.parent
@@ -54,7 +55,7 @@ def linked(chip, source, libraries):
     if program.exists() and program.stat().st_mtime > max(file.stat().st_mtime for file in made_of):
         return program
     OUT.mkdir(parents=True, exist_ok=True)
-    places = (HERE, ROOT / "bench", ROOT / "bench" / "include", ROOT / "crates" / "firmware", ROOT / "crates" / "gateway")
+    places = (HERE, ROOT / "bench", ROOT / "bench" / "include", *(ROOT / "crates" / crate for crate in build.HEADERS))
     words = ["-O2", *("-I%s" % place for place in places)]
     parts = [build.compiled(chip, source, OUT / (program.name + ".o"), "-include", start, *words)]
     if chip in NOT_WHOLE:
@@ -134,10 +135,20 @@ def compare_lists(chip, seed, every):
     return driver.end() == 0, said % (bench.lists, bench.refusals, bench.played, bench.records, bench.between)
 
 
+def compare_spools(chip, seed, lines):
+    """The spool product, with the firmware in one program."""
+    driver = Driver(chip, "spool")
+    try:
+        said = spool.check_through_c(driver, seed, lines)
+    except (spool.Wrong, images.Difference) as found:
+        return False, "the spool product: %s" % found
+    return driver.end() == 0, "the spool product, " + said
+
+
 def compare(chip, seed, lines, every):
     """Whether all is equal on the chip; what was compared is said."""
     began, good = time.monotonic(), True
-    parts = [is_shut(chip), *compare_sessions(chip, seed, lines), compare_images(chip, seed, every), compare_lists(chip, seed, every)]
+    parts = [is_shut(chip), *compare_sessions(chip, seed, lines), compare_images(chip, seed, every), compare_lists(chip, seed, every), compare_spools(chip, seed, lines // 4)]
     for right, said in parts:
         good &= right
         print("\n".join("%s: %s" % (chip, line) for line in said.splitlines()), flush=True)

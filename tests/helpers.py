@@ -73,13 +73,16 @@ def check_the_check(chip):
 
 
 # Every call, as a C programmer would write it; the lengths are 64 bits wide.
-CALLER = """#include "valve.h"
+CALLER = """#include "spool.h"
+#include "valve.h"
 #include "restore_list.h"
 int every_call(uint32_t *unit, const uint8_t *in, uint8_t *out, int16_t *four);
 int every_call(uint32_t *unit, const uint8_t *in, uint8_t *out, int16_t *four)
 {
     valve_start(unit);
     valve_tick(unit, four);
+    spool_start(unit, four);
+    spool_tick(unit, four, four + 2);
     valve_commands(unit, four);
     return valve_error_register(unit) + valve_serve(unit, in, 8, out, 8) + valve_save(unit, out, VALVE_IMAGE)
         + valve_check(in, VALVE_IMAGE) + valve_load(unit, in, VALVE_IMAGE)
@@ -87,7 +90,7 @@ int every_call(uint32_t *unit, const uint8_t *in, uint8_t *out, int16_t *four)
 }
 """
 LANGUAGES = (("-x", "c", "-std=c99"), ("-x", "c++", "-std=c++98", "-Wno-c++11-long-long"))
-OWN = {"valve_" + name for name in "start serve tick commands error_register save check load".split()} | {"restore_list"}
+OWN = {"valve_" + name for name in "start serve tick commands error_register save check load".split()} | {"spool_start", "spool_tick", "restore_list"}
 
 
 def check_headers(chip):

@@ -7,6 +7,7 @@ papers: the names are theirs, and a comment quotes the sentence a line stands fo
 (OP n) names the open point whose reading is taken where a paper leaves two, (ii) the request.
 
     python3 model.py < session       prints what the session program must print
+    python3 model.py spool < session the same of the spool product (iv)
 """
 
 import fractions
@@ -896,15 +897,47 @@ class Printer:
         return b"O %d %d %d %d %02X" % (*self.controller.commands(), self.controller.error_register.value)
 
 
-def session(lines):
+# --------------------------------------------------------------------------- The twin-coil spool product (iv)
+
+
+def interlocked(commands, sent):
+    """What the two coils are sent, of the core's commands and of what they were sent on the tick before."""
+    sending = []
+    for coil, other in ((0, 1), (1, 0)):
+        command = commands[coil]
+        asks = command > 0  # (OP 110)
+        # "a coil goes above 0 only if the other was sent 0 on the tick before"
+        waits = asks and sent[other] != 0
+        # "If both ask while both are at 0, coil 1 wins."
+        loses = coil == 1 and asks and commands[0] > 0 and sent[0] == 0 and sent[1] == 0
+        sending.append(0 if waits or loses else command)  # "The coil that loses is sent 0."
+    return sending
+
+
+class Spool(Printer):
+    """The product's session: the core's, but after O what the two coils are sent."""
+
+    def __init__(self):
+        super().__init__()
+        self.sent = [0, 0]  # "Both start as sent 0."
+
+    def ticked(self, samples):
+        self.controller.tick(samples)
+        commands = self.controller.commands()  # what the core has stays as it is (OP 107)
+        self.sent = interlocked(commands, self.sent)
+        return b"O %d %d %d %d %02X" % (*self.sent, *commands[2:], self.controller.error_register.value)  # (OP 108)
+
+
+def session(lines, product=Printer):
     """What a session prints, line by line; a line comes with its line end, the last may lack it."""
-    printer = Printer()
+    printer = product()
     for text in lines:
         yield printer.answer(text[:-1] if text.endswith(b"\n") else text) + b"\n"
 
 
 def main():
-    for printed in session(sys.stdin.buffer):  # binary, so LF alone ends a line (OP 87)
+    product = Spool if sys.argv[1:] == ["spool"] else Printer
+    for printed in session(sys.stdin.buffer, product):  # binary, so LF alone ends a line (OP 87)
         sys.stdout.buffer.write(printed)
 
 

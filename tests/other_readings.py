@@ -13,6 +13,7 @@ import sys
 import types
 
 import sessions
+import spool_sessions
 
 SOURCE = pathlib.Path(__file__).with_name("model.py").read_text()
 
@@ -239,6 +240,24 @@ CHANGES = (
     ("1001h in decimal", "%02X\" % (*self", "%02d\" % (*self"),
 )
 
+# Of the spool product (iv), on sessions of its own.
+OF_THE_SPOOL = (
+    ("(iv): coil 2 wins", "loses = coil == 1 and asks and commands[0] > 0", "loses = coil == 0 and asks and commands[1] > 0"),
+    ("(iv): neither wins", "loses = coil == 1 and asks and commands[0] > 0", "loses = asks and commands[other] > 0"),
+    ("(iv): both win", "loses = coil == 1 and asks", "loses = False and asks"),
+    ("(iv): coil 2 loses although it goes", "sent[0] == 0 and sent[1] == 0\n", "sent[0] == 0\n"),
+    ("(iv): the other's present command counts", "waits = asks and sent[other] != 0", "waits = asks and commands[other] != 0"),
+    ("(iv): less than 0 counts as sent 0", "waits = asks and sent[other] != 0", "waits = asks and sent[other] > 0"),
+    ("(iv): both at less than 0 are at 0", "sent[0] == 0 and sent[1] == 0\n", "sent[0] <= 0 and sent[1] <= 0\n"),
+    ("(iv): the coil that loses keeps its last", "0 if waits or loses else command", "sent[coil] if waits or loses else command"),
+    ("(iv): a coil is held although the other rests", "waits = asks and sent[other] != 0", "waits = asks and (sent[other] != 0 or sent[coil] != 0)"),
+    ("OP 105: a coil above 0 is held by nothing", "waits = asks and sent[other] != 0", "waits = asks and sent[coil] <= 0 and sent[other] != 0"),
+    ("OP 106: what coil 1 is sent on this tick counts", "waits = asks and sent[other] != 0", "waits = asks and (sending[0] if coil else sent[1]) != 0"),
+    ("OP 107: the core is held too", "commands = self.controller.commands()  # what the core has", "commands = self.controller.commands()\n        for output, number in zip(self.controller.outputs, interlocked(commands, self.sent)):\n            output.command.value = number  # what the core has"),
+    ("OP 108: outputs 3 and 4 are interlocked too", "(*self.sent, *commands[2:],", "(*self.sent, *interlocked(commands[2:], [0, 0]),"),
+    ("OP 178: the core's commands are printed", "(*self.sent, *commands[2:],", "(*commands,"),
+)
+
 
 def changed_model(old, new):
     if SOURCE.count(old) < 1:
@@ -248,13 +267,16 @@ def changed_model(old, new):
     return module
 
 
-def noticed_at(module, recorded):
+def noticed_at(module, recorded, product="Printer"):
     """The number of the first line that the changed model answers otherwise, None where there is none."""
     count = 0
     for session in recorded:
-        printer = module.Printer()
+        printer = getattr(module, product)()
         for line, answer in session:
             count += 1
+            if isinstance(line, tuple):  # what the spool product has sent from now on
+                printer.sent = list(line)
+                continue
             try:
                 came = printer.answer(line)
             except (ArithmeticError, AttributeError, TypeError, ValueError):
@@ -268,13 +290,15 @@ def main(arguments):
     seed = arguments[0] if arguments else "1"
     lines = int(arguments[1]) if len(arguments) > 1 else 100000
     recorded = [list(session) for _, session in sessions.plan(seed, lines)]
+    levers = list(spool_sessions.plan(seed, min(lines, 20000), lends=True))
+    rows = [(row, recorded, "Printer") for row in CHANGES] + [(row, levers, "Spool") for row in OF_THE_SPOOL]
     missed = []
-    for title, old, new in CHANGES:
-        at = noticed_at(changed_model(old, new), recorded)
+    for (title, old, new), on, product in rows:
+        at = noticed_at(changed_model(old, new), on, product)
         print("%9s  %s" % (at or "MISSED", title), flush=True)
         if at is None:
             missed.append(title)
-    print("%d of %d changes noticed within %d lines" % (len(CHANGES) - len(missed), len(CHANGES), lines))
+    print("%d of %d changes noticed within %d lines" % (len(rows) - len(missed), len(rows), lines))
     return 1 if missed else 0
 
 

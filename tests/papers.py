@@ -6,7 +6,7 @@
 
 Looked at are README.md, docs/ with what stands below it, and the README.md of tests/, bench/ and chip/: names in backticks, and in TRACE.md the words before
 them too. A file of definitions has to be believed if one is led to it, by what is cited, from a demand, from the statements on a
-session's pieces and on its program, or from a contract that stands at the edge: of a function that C calls, that a program uses, or that nothing
+session's pieces and on its program, from what a line of the spool product's session does, or from a contract that stands at the edge: of a function that C calls, that a program uses, or that nothing
 else in the tree uses.
 """
 
@@ -62,7 +62,7 @@ def edge():
 
 def believed():
     """The files that have to be believed, and the types."""
-    waiting = [CRATES / file for file in ("promises/specs/Demands.antt", "session/specs/Pieces.antt", "session/specs/Program.antt")]
+    waiting = [CRATES / file for file in ("promises/specs/Demands.antt", "session/specs/Pieces.antt", "session/specs/Program.antt", "lever/specs/Told.antt")]
     files, types = {*waiting}, set()
     waiting += sorted(edge())
     while waiting:
@@ -225,7 +225,7 @@ def missing_definitions():
 def bare_functions():
     """Public functions that ask something of their callers, or that promise nothing."""
     for _, file, name, head in public_functions():
-        if "requires {" in head or "ensures {" not in head:
+        if "requires {" in head or not re.search(r"ensures (\w+ )?\{", head):
             yield "%s: %s has a requires, or no ensures" % (file.relative_to(ROOT), name)
 
 

@@ -25,7 +25,7 @@ import helpers  # noqa: E402
 # What stands before each block, and the last lines that it prints: the paper's own session, and a list of one record, 4 bytes
 # of count, then 3015h:2, its size and 150.
 FIRST = "Run it:", ["4F01100000000000", "6015300200000000", "O 0 0 0 0 00"]
-LINKED = "There are two static libraries:", ["13 bytes: 01 00 00 00 15 30 02 02 00 00 00 96 00"]
+LINKED = "There are three static libraries:", ["13 bytes: 01 00 00 00 15 30 02 02 00 00 00 96 00"]
 DONE_BY_THE_GATE = "rt check && "
 BUILT = "firmware", "gateway"
 ON_A_CHIP = "makes `target/chip/cortex-m4f/`"

@@ -17,6 +17,9 @@ use Rattle.promises.proofs.Ramps as Ramps
 use Rattle.promises.proofs.Restoring as Restoring
 use Rattle.promises.proofs.Running as Running
 use Rattle.promises.proofs.SameDigits as SameDigits
+use Rattle.promises.proofs.NotBelow as NotBelow
+use Rattle.promises.proofs.Spool as Spool
+use Rattle.spool.proofs.Coils as Coils
 use Rattle.promises.proofs.Ticking as Ticking
 use Rattle.controller.proofs.Off as Off
 use Rattle.promises.proofs.Trap as Trap
@@ -128,4 +131,14 @@ asked-for =
       read-exactly = Errors.read-exactly;
       last-eight = Errors.last-eight;
       what-went-wrong-first = Errors.what-went-wrong-first;
+      spool-only-these = Spool.only-these;
+      spool-only-after-0 = Coils.only-after-0;
+      spool-never-both = Spool.never-both-above;
+      spool-sent-on = Spool.sent-on;
+      spool-core-as-before = Spool.core-as-before;
+      spool-only-ticks-send = Spool.only-ticks-send;
+      commands-not-below-0 = NotBelow.commands-not-below-0;
+      spool-change-over = Spool.change-over;
+      spool-waits = Spool.waits-for-the-other;
+      spool-goes-next = Spool.goes-next;
     }

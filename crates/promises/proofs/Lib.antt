@@ -12,6 +12,7 @@ pub mod Images
 pub mod Judged
 pub mod ListFrames
 pub mod Listed
+pub mod NotBelow
 pub mod Proper
 pub mod Ramps
 pub mod Reached
@@ -23,6 +24,7 @@ pub mod SameDigits
 pub mod Serving
 pub mod Slots
 pub mod Spent
+pub mod Spool
 pub mod Ticking
 pub mod Trap
 pub mod Underway

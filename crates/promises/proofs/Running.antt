@@ -46,7 +46,7 @@ use Rattle.promises.proofs.Serving.{stays-valid}
 
 -- ---- one event is what the definitions make of it
 
-did : (e : Event) (s t : List ℕ) → Did e s t → t ≡ happens e s
+pub did : (e : Event) (s t : List ℕ) → Did e s t → t ≡ happens e s
 unfolding happens
 did (frame f room) s t (Did.by-frame reply reply′ r long d) = d .state ∙ ap (after s) (d .answered ∙ ap (answer s f) long)
 did (tick samples) s t (Did.by-tick d) = d
@@ -155,7 +155,7 @@ sound-after-load unit image b h =
           ∙ ap (λ (t : Bool). first t 0x21 0) (sym (Tick.same-flags (λ k. kept (flags-at + k) (omega (arith, Names.counted)))));
     }
 
-sound-on : (events : List Event) (unit : List ℕ) → Made-of-bytes events → Sound unit → Sound (run events unit)
+pub sound-on : (events : List Event) (unit : List ℕ) → Made-of-bytes events → Sound unit → Sound (run events unit)
 unfolding run
 sound-on [] unit b h = h
 sound-on (frame f room ∷ es) unit b h = sound-on es (happens (frame f room) unit) (b .1) (sound-after-frame unit f room (b .0) h)

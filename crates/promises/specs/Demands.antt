@@ -3,6 +3,7 @@
 use Rattle.numbers.specs.Bound.{Fits-32-bits}
 use Rattle.dictionary.specs.OneEach.{Names-apart, Slot-named, Slots-apart}
 use Rattle.output.specs.Lasting.{Lasts, Moves-on, On-time, At-once}
+use Rattle.spool.specs.Coils.{Only-after-0}
 use Rattle.table.specs.Curves.{Never-dips, Stays-between}
 use Rattle.promises.specs.Bench.{On-the-bench}
 use Rattle.promises.specs.Curves.{Tables-never-dip, Tables-stay-between}
@@ -16,6 +17,7 @@ use Rattle.promises.specs.Ramps.{Every-ramp-lasts, Every-ramp-moves-on, 
 use Rattle.promises.specs.Restoring.{Always-fits, Count-is-difference, Equal-images, Each-accepted, Arrives, Shortest, Cut-anywhere, Taken-up-again, Turned-away-exactly, Own-image, Refused-lists-write-nothing, One-list}
 use Rattle.promises.specs.Running.{Only-the-fold, Always-sound}
 use Rattle.promises.specs.SameDigits.{Same-digits, Reals-as-before, Given-by-its-table}
+use Rattle.promises.specs.Spool.{Only-these, Core-as-before, Only-ticks-send, Never-both-above, Sent-on, Commands-not-below-0, Change-over, Waits-for-the-other, Goes-next}
 use Rattle.promises.specs.Ticking.{No-nan, Table-sentence, Every-tick}
 use Rattle.controller.specs.Off.{Math-off, Math-error, Table-passes, Logic-off}
 use Rattle.controller.specs.TickLaws.{Words-kept, Register-told, Flags-unwritten, Register-unwritten}
@@ -195,3 +197,20 @@ pub record Asked-for : Type 0 where
   pub last-eight : Last-eight
   -- "Technicians ask what went wrong first."
   pub what-went-wrong-first : What-went-wrong-first
+  -- (iv) "Both start as sent 0. It sends the core's two commands on": any frames, ticks and loads leave what the definitions make of them
+  pub spool-only-these : Only-these
+  -- "a coil goes above 0 only if the other was sent 0 on the tick before"
+  pub spool-only-after-0 : Only-after-0
+  -- "Wanted: over any ticks and writes never both above 0"
+  pub spool-never-both : Never-both-above
+  -- "and each coil is sent the core's command whenever these rules don't hold it at 0"
+  pub spool-sent-on : Sent-on
+  -- "Demand 3 reads as before", and so do demands 1 and 2: the unit is the core's, and no frame changes what was sent
+  pub spool-core-as-before : Core-as-before
+  pub spool-only-ticks-send : Only-ticks-send
+  -- and who waits: the core commands nothing below 0, so from the one coil to the other there is a tick with both at 0
+  pub commands-not-below-0 : Commands-not-below-0
+  pub spool-change-over : Change-over
+  pub spool-waits : Waits-for-the-other
+  -- "If both ask while both are at 0, coil 1 wins. The coil that loses is sent 0."
+  pub spool-goes-next : Goes-next

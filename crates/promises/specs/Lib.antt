@@ -12,5 +12,6 @@ pub mod Restoring
 pub mod Running
 pub mod SameDigits
 pub mod Serving
+pub mod Spool
 pub mod Ticking
 pub mod Trap

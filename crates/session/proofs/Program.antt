@@ -13,7 +13,7 @@ use Rattle.session.specs.Dialogue.{Kept, taken, Hears, session}
 use Rattle.session.specs.Pieces.{fed, whole, In-any-pieces}
 use Rattle.session.specs.Program.{Turn, Turned, Turns, Looped, All-taken, Prints-the-session}
 use Rattle.session.proofs.dialogue.Pieces.{in-any-pieces}
-use Rattle.session.proofs.dialogue.Told.{begins}
+use Rattle.printer.proofs.Answers.{begins}
 
 -- ---- the program's loop
 

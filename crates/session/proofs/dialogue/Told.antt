@@ -1,14 +1,13 @@
 -- What a held line is answered.
 -- Assumes nothing.
 use Prim.Native.Nat.{ℕ, _<_, _≤_}
-use mathlib.Core.List.{List, [], _∷_, _++_}
+use mathlib.Core.List.{List, [], _∷_}
 use mathlib.Core.Path.{_≡_, refl, sym, ap, _∙_}
 use native.Mathlib.Omega.{arith}
 use borrow.Author.Tests.{le-leb, lt-leb, ne-eqb}
-use lib.ListN.{length, take, drop, length-take, length-append}
-use lib.Seq.{length-take-le, take-all, take-append-seam}
+use lib.ListN.{length, take, length-take}
+use lib.Seq.{length-take-le, take-all}
 use Rattle.numbers.specs.Choice.{first}
-use Rattle.printer.specs.Printing.{Printed}
 use Rattle.printer.specs.Answering.{Said, said, unheard}
 use Rattle.session.specs.Dialogue.{cut, lines, told, next, answered, Kept, goes-on, closed}
 use Rattle.session.specs.Byte.{ending}
@@ -38,13 +37,7 @@ module _ (k : Kept) where
   unfolding closed goes-on cut lines answered next ending first
   some-held h n = rw (ne-eqb (length (take (k .held) (k .line))) 0 (λ e. n (omega (arith, length-take (k .held) (k .line)))))
 
--- ---- an answer in its buffer
-
-pub begins : {answer before after : List ℕ} {count : ℕ} → Printed answer before after count → take count after ≡ answer
-begins {answer} {before} p = rw (p .counted, p .bytes) (take-append-seam answer (drop (length answer) before))
-
-pub inside : {answer before after : List ℕ} {count : ℕ} → Printed answer before after count → count ≤ length after
-inside {answer} {before} p = rw (p .counted, p .bytes) (omega (arith, length-append answer (drop (length answer) before)))
+-- ---- its length
 
 pub ending-most : (k : Kept) → length (ending k .printed) ≤ 33
 unfolding ending

@@ -5,7 +5,7 @@ use borrow.Author.Needs.{needs}
 use lib.Seq.{length-take-le}
 use Rattle.session.specs.Program.{Turned}
 use Rattle.session.proofs.Program.{answered}
-use Rattle.session.proofs.dialogue.Told.{inside}
+use Rattle.printer.proofs.Answers.{inside}
 use Rattle.session.proofs.turn.Statement.{statement}
 use Rattle.session.proofs.turn.Tie as tie
 

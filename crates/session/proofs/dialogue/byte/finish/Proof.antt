@@ -6,7 +6,8 @@ use native.Mathlib.Omega.{arith}
 use borrow.Author.Needs.{needs}
 use lib.ListN.{length, take}
 use lib.Seq.{sets, length-take-le}
-use Rattle.session.proofs.dialogue.Told.{begins, inside, ending-most}
+use Rattle.printer.proofs.Answers.{begins, inside}
+use Rattle.session.proofs.dialogue.Told.{ending-most}
 use Rattle.session.proofs.dialogue.byte.finish.Statement.{statement}
 use Rattle.session.proofs.dialogue.byte.finish.Tie as tie
 
