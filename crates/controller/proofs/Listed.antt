@@ -14,7 +14,7 @@ use lib.Seq.{take-all}
 use Rattle.numbers.specs.Choice.{first}
 use Rattle.numbers.specs.Signed.{pattern16}
 use Rattle.dictionary.specs.Names.{slot-of, words}
-use Rattle.dictionary.specs.Unit.{signals-at, runs-at, flags-at, unit-size}
+use Rattle.dictionary.specs.Unit.{signals-at, runs-at, flags-at, ramps-at, unit-size}
 use Rattle.dictionary.proofs.naming.NameLaws.{counted}
 use Rattle.unit.specs.Each.{each}
 use Rattle.unit.specs.Entry.{entry, publish}
@@ -55,12 +55,13 @@ module _ {slot : ℕ} (o : Of-list slot) where
 
   -- and only inputs set them
   later : (j : ℕ) → 3 < j → Spared slot j
-  unfolding place signals-at
+  unfolding place signals-at runs-at flags-at ramps-at
   later j h =
       record {
         unpublished = λ at p. published p;
         memory = λ l. unremembered j;
         signal = λ l. (λ e. omega (arith, in-words o), λ e. omega (arith, in-words o));
+        ramp = λ l q w g e. omega (arith, in-words o);
         unlisted = λ l. absurd (omega arith);
       }
 
