@@ -52,7 +52,7 @@ static void store32(uint8_t *p, uint32_t v)
 static int32_t decoded(enum type type, uint32_t data)
 {
     switch (type) {
-    case U8: case CLEARED: return (uint8_t)data;
+    case U8: return (uint8_t)data;
     case U16: return (uint16_t)data;
     case I16: return (int16_t)data;
     default: return (int32_t)data;
@@ -63,17 +63,15 @@ static int32_t decoded(enum type type, uint32_t data)
 static uint32_t write(struct plain *s, const struct row *row, uint32_t sub, uint32_t size, uint32_t data)
 {
     int32_t at = row->word + (int32_t)sub, value;
-    if (row->fixed || (sub == 0 && row->largest))
+    if (row->use == FIXED || (sub == 0 && row->largest))
         return 0x06010002;
     if (size != types[row->type].size)
         return size > types[row->type].size ? 0x06070012 : 0x06070013;
     value = decoded(row->type, data);
-    if (row->type == CLEARED && value)
-        return 0x06090030;
     if (row->type == R32 && (data & 0x7F800000) == 0x7F800000)
         return 0x06090030;
     if (value > row->high)
-        return 0x06090031;
+        return row->name == NAME(0x1003, 0) ? 0x06090030 : 0x06090031;
     if (value < row->low)
         return 0x06090032;
     if (row->above && value + row->above_gap > word_at(s, at + row->above))
@@ -108,7 +106,7 @@ int32_t plain_serve(struct plain *s, const uint8_t *frame, size_t frame_length, 
     if (row->name >> 8 != (head >> 8 & 0xFFFF))
         return reply_with(reply, 0x80, name, 0x06020000);
     /* of 1003h as many subs are there as errors are kept */
-    if (sub > row->last || (row->type == U32 && (int32_t)sub > s->errors_kept))
+    if (sub > row->last || (row->name == NAME(0x1003, 1) && (int32_t)sub > s->errors_kept))
         return reply_with(reply, 0x80, name, 0x06090011);
     if (command == 0x40) {
         if (sub == 0 && row->largest)

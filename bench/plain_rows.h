@@ -3,7 +3,7 @@
 #define PLAIN_ROWS_H
 #include "plain.h"
 
-enum type { U8, U16, I16, R32, U32, CLEARED }; /* CLEARED: an UNSIGNED8 that takes 0 alone */
+enum type { U8, U16, I16, R32 };
 
 static const struct {
     uint8_t size, read;
@@ -13,15 +13,16 @@ static const struct {
     [U16] = {2, 0x4B, 0xFFFF},
     [I16] = {2, 0x4B, 0xFFFF},
     [R32] = {4, 0x43, 0xFFFFFFFF},
-    [U32] = {4, 0x43, 0xFFFFFFFF},
-    [CLEARED] = {1, 0x4F, 0xFF},
 };
+
+/* FIXED: no frame writes it. RECEIVED: frames do, but it is no configuration. */
+enum use { CONFIGURED, RECEIVED, FIXED };
 
 /* The first row of an ARRAY stands at its sub 0; what an ARRAY's subs do not share is told by several rows. */
 struct row {
     uint32_t name;               /* index and first sub */
     uint8_t last, largest;       /* the row's last sub; the ARRAY's largest, 0 for a VAR */
-    uint8_t type, fixed;         /* fixed: no frame writes it */
+    uint8_t type, use;           /* what it is for */
     int32_t low, high;           /* its own range */
     int16_t start, step;         /* at start the row's first entry, and how much more each next one */
     int16_t word;                /* where sub 0 would stand in struct plain */
@@ -44,7 +45,7 @@ struct row {
 #define CURRENT .type = I16, .high = 2500
 #define TIME .type = U16, .high = 60000, .start = 1000
 #define FINITE .type = R32, .low = -2147483647 - 1, .high = 2147483647 /* of its bits: finite is told apart */
-#define SHOWN(t) .type = t, .fixed = 1
+#define SHOWN(t) .type = t, .use = FIXED
 #define UNDER(field, upper, gap) .above = WORD(upper) - WORD(field), .above_gap = gap
 #define OVER(field, lower, gap) .below = WORD(lower) - WORD(field), .below_gap = gap
 
@@ -72,8 +73,8 @@ struct row {
 
 static const struct row rows[] = {
     VAR(0x1001, error_register, SHOWN(U8)),
-    VAR(0x1003, errors_kept, .type = CLEARED),
-    PART(0x1003, 1, 8, 8, errors, SHOWN(U32)),
+    VAR(0x1003, errors_kept, BYTE(0), .use = RECEIVED),
+    PART(0x1003, 1, 8, 8, errors, SHOWN(R32)), /* four bytes, as a REAL32 has */
     ARRAY(0x2110, 4, detect, BYTE(1), .start = 1),
     ARRAY(0x2111, 4, hysteresis, .type = I16, .high = 32767, .start = 100),
     ARRAY(0x2112, 4, delay, TIME),
@@ -88,7 +89,7 @@ static const struct row rows[] = {
     ARRAY(0x2360, 4, override_source, SOURCE),
     ARRAY(0x2361, 4, override_number, NUMBER),
     ARRAY(0x2362, 4, override_response, BYTE(1)),
-    ARRAY(0x2500, 12, ec, ANY16),
+    ARRAY(0x2500, 12, ec, ANY16, .use = RECEIVED),
     ARRAY(0x2502, 12, ec_digits, DIGITS),
     ARRAY(0x2520, 12, ec_from, ANY16, UNDER(ec_from, ec_to, 1)),
     ARRAY(0x2522, 12, ec_to, ANY16, .start = 1000, OVER(ec_to, ec_from, 1)),
@@ -127,11 +128,7 @@ static const struct row rows[] = {
 
 #define ROWS (sizeof rows / sizeof rows[0])
 
-/* What is only shown is no configuration, and the EC values and 1003h:0 are not either. */
-static inline int is_configured(const struct row *row)
-{
-    return !row->fixed && row->name >> 8 != 0x2500 && row->type != CLEARED;
-}
+static inline int is_configured(const struct row *row) { return row->use == CONFIGURED; }
 
 /* The first sub with an entry: an ARRAY's sub 0 is its largest sub. */
 static inline uint32_t first_sub(const struct row *row)

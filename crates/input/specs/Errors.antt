@@ -26,9 +26,9 @@ unfoldable pub entered : List ℕ → ℕ → List ℕ
 entered unit n =
     publish (sets unit (slot-of 0x1003 1) (error n ∷ take 7 (eight unit))) 0x1003 0 (min (entry unit 0x1003 0 + 1) 8)
 
--- a flagging: the input was not flagged and is
+-- a flagging: the input is flagged and was not
 unfoldable pub flagging : Bool → Bool → Bool
-flagging was is = not was && is
+flagging was is = is && not was
 
 unfoldable pub noted : List ℕ → ℕ → Bool → Bool → List ℕ
 noted unit n was is = first (flagging was is) (entered unit n) unit

@@ -35,10 +35,10 @@ pub fn note(unit: &mut Unit, k: usize, was: bool, is: bool)
     requires { ⌜ k < 4 ⌝ }
     ensures { λ _. ⌜ now (unit .exit) ≡ noted (now (unit .entry)) (k + 1) was is ⌝ }
 {
-    if was {
-        return;
-    }
+    // most ticks find no flag, so that is asked first
     if is {
-        enter(unit, k);
+        if !was {
+            enter(unit, k);
+        }
     }
 }
