@@ -166,13 +166,18 @@ pub const RUNS: usize = SIGNALS + 2 * 16;
 
 pub const FLAGS: usize = RUNS + 4;
 
-pub const UNIT: usize = FLAGS + 4;
+// The signals as the last tick found them, and whether there was a tick since the start and since the last accepted write
+pub const BEFORE: usize = FLAGS + 4;
+
+pub const TICKED: usize = BEFORE + 2 * 16;
+
+pub const UNIT: usize = TICKED + 1;
 
 // The whole unit.
 pub type Unit = [u32; UNIT];
 
 // The places are the table's slots.
-fn places() -> [usize; 76]
+fn places() -> [usize; 78]
     ensures { λ r. ⌜ r ≡ places ⌝ }
 {
     [
@@ -245,6 +250,8 @@ fn places() -> [usize; 76]
         SIGNALS,
         RUNS,
         FLAGS,
+        BEFORE,
+        TICKED,
         UNIT,
         TABLE_ENTRIES,
         LOGIC_ENTRIES,
