@@ -3,7 +3,9 @@
 use Rattle.dictionary.proofs.OneEach as OneEach
 use Rattle.numbers.proofs.Bound as Bound
 use Rattle.table.proofs.Curves as curves
+use Rattle.why.proofs.Fits as Fits
 use Rattle.promises.specs.Demands.{Demand-1, Demand-2, Demand-3, Asked-for}
+use Rattle.promises.proofs.Asking as Asking
 use Rattle.promises.proofs.Bench as Bench
 use Rattle.promises.proofs.Curves as Curves
 use Rattle.promises.proofs.ByWay as ByWay
@@ -95,6 +97,10 @@ pub asked-for : Asked-for
 asked-for =
     record {
       fits-32-bits = Bound.fits-32-bits;
+      told-as-it-was = Asking.told-as-it-was;
+      refused-exactly = Asking.refused-exactly;
+      one-answer-why = Asking.one-answer-why;
+      answers-fit = Fits.always-fits;
       never-dips = curves.never-dips;
       tables-never-dip = Curves.tables-never-dip;
       stays-between = curves.stays-between;

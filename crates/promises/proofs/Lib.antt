@@ -1,9 +1,11 @@
 pub mod Accepted
+pub mod Asking
 pub mod Bench
 pub mod ByWay
 pub mod ByteLaws
 pub mod Curves
 pub mod Demands
+pub mod Forgetting
 pub mod FrameRefusals
 pub mod ImageRefusals
 pub mod Images

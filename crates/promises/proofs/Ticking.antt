@@ -77,7 +77,7 @@ module _ (unit : List ℕ) (v : Valid unit) where
   strictly i s j t h e = not-false _ (ap (λ (l : Link). judge.past-upper unit l (entry.whole unit i s)) (sym e) ∙ v .linked (slot-of i s) h)
 
   module _ (k : ℕ) (h : k < 4) where
-    rising : Rising unit (k + 1)
+    pub rising : Rising unit (k + 1)
     unfolding has have
     rising =
         record {
@@ -88,7 +88,7 @@ module _ (unit : List ℕ) (v : Valid unit) where
           ends = strictly 0x4521 (k + 1) 0x4523 (k + 1) (omega (arith, array 0x4521 refl k h, counted)) (agree 4 (above 0x4521) (next 0x4523) Free ends-linked k h);
         }
 
-    limits-rise : below (entry.whole unit 0x7321 (k + 1)) (entry.whole unit 0x7323 (k + 1)) ≡ true
+    pub limits-rise : below (entry.whole unit 0x7321 (k + 1)) (entry.whole unit 0x7323 (k + 1)) ≡ true
     unfolding has
     limits-rise = strictly 0x7321 (k + 1) 0x7323 (k + 1) (omega (arith, array 0x7321 refl k h, counted)) (agree 4 (above 0x7321) (next 0x7323) Free limits-linked k h)
 
