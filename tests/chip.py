@@ -1,4 +1,4 @@
-"""The libraries on emulated chips, against the same model as on x86-64: sessions, images and lists.
+"""The libraries on emulated chips, against the same model as on x86-64: sessions, images, lists and questions why.
 
     python3 chip.py [--seed S] [--lines N] [CHIP ..]
 
@@ -21,6 +21,8 @@ import images
 import images_cases
 import lists
 import lists_cases
+import why
+import why_cases
 
 HERE = pathlib.Path(__file__).resolve().parent
 ROOT = HERE.parent
@@ -134,10 +136,24 @@ def compare_lists(chip, seed, every):
     return driver.end() == 0, said % (bench.lists, bench.refusals, bench.played, bench.records, bench.between)
 
 
+def compare_questions(chip, seed, every):
+    driver = Driver(chip, "why")
+    bench = why.Bench(driver)
+    part = "by hand"
+    try:
+        why.check_by_hand(bench)
+        bench.play(why.longest())
+        for part, steps in why_cases.cases(seed, 400 // every, 2000):
+            bench.play(steps)
+    except images.Difference as found:
+        return False, "questions why, %s: %s" % (part, found)
+    return driver.end() == 0, "%d questions why: all equal" % bench.questions
+
+
 def compare(chip, seed, lines, every):
     """Whether all is equal on the chip; what was compared is said."""
     began, good = time.monotonic(), True
-    parts = [is_shut(chip), *compare_sessions(chip, seed, lines), compare_images(chip, seed, every), compare_lists(chip, seed, every)]
+    parts = [is_shut(chip), *compare_sessions(chip, seed, lines), compare_images(chip, seed, every), compare_lists(chip, seed, every), compare_questions(chip, seed, every)]
     for right, said in parts:
         good &= right
         print("\n".join("%s: %s" % (chip, line) for line in said.splitlines()), flush=True)

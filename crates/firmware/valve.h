@@ -9,6 +9,9 @@
  *     valve_commands(unit, commands);                                 and what it commands, four numbers
  *     if (valve_serve(unit, frame, 8, reply, 8) == 8) send(reply);    for each SDO request
  *
+ *     static uint8_t trail[VALVE_TRAIL];
+ *     int32_t rule = valve_why(unit, 1, trail);                       why output 1 has its command, for a technician
+ *
  *     static uint8_t image[VALVE_IMAGE];
  *     valve_save(unit, image, VALVE_IMAGE);                           the configuration as bytes to keep
  *     if (valve_load(unit, image, VALVE_IMAGE) != 0) complain();      and back, into this unit or another

@@ -1,5 +1,5 @@
--- One tick: "Order: inputs, math, tables, logic, outputs, each by number, then 1001h." Before it the signals are kept as they are found, and
--- at the end the unit is told that there was one.
+-- One tick: "Order: inputs, math, tables, logic, outputs, each by number, then 1001h."
+-- Before it the signals are kept as they are found, and at its end the unit is told that there was one.
 -- Assumes nothing.
 use Prim.Native.Nat.{ℕ, _+_, _-_}
 use mathlib.Core.List.{List}

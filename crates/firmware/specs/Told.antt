@@ -1,4 +1,4 @@
--- What `valve_save`, `valve_check`, `valve_load` and `valve_why` leave: 0, a rule or the refusal's number below zero, and every lent word and byte.
+-- What images and a question why leave in C: 0, a rule, or the refusal's number below zero, and every lent word and byte.
 -- Assumes nothing.
 use Prim.Native.Nat.{ℕ}
 use mathlib.Core.Path.{_≡_}

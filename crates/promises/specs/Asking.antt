@@ -1,5 +1,4 @@
--- What is promised of a question why: "the rule named is the one that gave the command, no earlier rule applied, and each step of the trail
--- really was in error and read the next", and the refusals.
+-- What is promised of a question why, document 02 (v), and of its refusals.
 -- Assumes nothing.
 use Prim.Native.Nat.{ℕ, _+_, _<_}
 use mathlib.Core.Bool.{Bool, true, false, not, _||_}

@@ -1,5 +1,5 @@
--- "given the state after a tick and an output number, name the rule (1 to 7), the signal that decided it, and for an error the trail": the
--- number that C is given, and the bytes of `trail`.
+-- What is told of an output: a number, and the bytes of `trail`.
+-- "given the state after a tick and an output number, name the rule (1 to 7), the signal that decided it, and for an error the trail".
 -- Assumes nothing.
 use Prim.Native.Nat.{ℕ, _+_, _%_, _≤_}
 use mathlib.Core.Bool.{Bool, _||_}

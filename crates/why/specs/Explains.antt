@@ -1,5 +1,5 @@
--- "Proved: the rule named is the one that gave the command, no earlier rule applied, and each step of the trail really was in error and read
--- the next": of any unit after a tick, by the units before and after it.
+-- What is proved of all that is told, of any unit after a tick, by the units before and after it.
+-- "the rule named is the one that gave the command, no earlier rule applied, and each step of the trail really was in error and read the next".
 -- Assumes nothing.
 use Prim.Native.Nat.{ℕ, _+_, _<_, _≤_}
 use mathlib.Core.Bool.{Bool, true, false}

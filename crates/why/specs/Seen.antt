@@ -1,5 +1,5 @@
--- What a block saw of a pair (source, number), told by the unit after the tick alone: "A block that reads a later block, or itself, sees the
--- last tick's signal".
+-- What a block saw of a pair (source, number) in a tick, told by the unit after it alone.
+-- "A block that reads a later block, or itself, sees the last tick's signal".
 -- Assumes nothing.
 use Prim.Native.Nat.{ℕ, _+_, _-_, _*_}
 use mathlib.Core.Bool.{Bool, not, _&&_}
