@@ -71,9 +71,9 @@ IN_WORDS = (
         0,
     ),
     (
-        [*TWO_ERRORS, write(0x6340, 2, 0), tick(), tick(OUT)],
+        [*TWO_ERRORS, write(0x6340, 2, 0), write(0x2330, 2, 0, 2), tick(), tick(OUT)],
         2,
-        "output 2 keeps its last command: rule 5, its control (math 1) is in error [7330h:2 = 0; 2340h:2 = 5, 2341h:2 = 1; 6340h:2 = 0, 7341h:2 = 0]\n"
+        "output 2 keeps its last command: rule 5, its control (math 1) is in error [7330h:2 = 750; 2340h:2 = 5, 2341h:2 = 1; 6340h:2 = 0, 7341h:2 = 0]\n"
         "math 1 reads input 2, its input 2 [4600h:2 = 2, 4601h:2 = 2]\n"
         "input 2 is flagged [7100h:2 = 6000; 7148h:2 = 0, 7149h:2 = 5000]\n",
         0,
