@@ -158,9 +158,9 @@ module _ {slot : ℕ} where
     logic-keeps other another clear u = joined (publish-keeps u 0x4010 (k + 1) _ other) (joined (publish-keeps _ 0x4020 (k + 1) _ another) (lay-keeps _ logics (k + 1) _ clear))
 
     module _ (others : (w : ℕ) → w < 6 → slot ≡ ramp-word k w → ⊥) where
-      noted-keeps : (u : List ℕ) (m : Motion) → Kept slot u (output.noted u (k + 1) m)
+      count-kept : (u : List ℕ) (m : Motion) → Kept slot u (output.noted u (k + 1) m)
       unfolding output.noted ramps-at ramp-start-at ramp-rising-at ramp-fv1-at ramp-fv2-at ramp-used-at
-      noted-keeps u m =
+      count-kept u m =
           joined (set-keeps u (ramp-start-at + (k + 1 - 1)) _ (λ e. others 1 (lit< tt) (omega arith)))
           (joined (set-keeps _ (ramp-rising-at + (k + 1 - 1)) _ (λ e. others 2 (lit< tt) (omega arith)))
           (joined (set-keeps _ (ramp-fv1-at + (k + 1 - 1)) _ (λ e. others 3 (lit< tt) (omega arith)))
@@ -170,7 +170,7 @@ module _ {slot : ℕ} where
       pub output-keeps : (slot ≡ slot-of 0x7330 (k + 1) → ⊥) → (u : List ℕ) → Kept slot u (outputTurn (k + 1) u)
       unfolding outputTurn output.remember ramps-at ramp-count-at
       output-keeps other u = let m = output.drivenOf u (k + 1) in
-          joined (chosen (Kept slot u) (eqb (m .count) 1) (output.noted u (k + 1) m) u (λ e. noted-keeps u m) (λ e. same))
+          joined (chosen (Kept slot u) (eqb (m .count) 1) (output.noted u (k + 1) m) u (λ e. count-kept u m) (λ e. same))
           (joined (publish-keeps _ 0x7330 (k + 1) _ other) (set-keeps _ (ramp-count-at + (k + 1 - 1)) _ (λ e. others 0 (lit< tt) (omega arith))))
 
     pub input-keeps : (slot ≡ slot-of 0x7100 (k + 1) → ⊥) → (slot ≡ slot-of 0x7130 (k + 1) → ⊥) → Clear slot inputs (k + 1)
