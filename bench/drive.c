@@ -6,13 +6,14 @@
        B, a place and a byte      the byte at this place of the image
        K                          a copy of the image is kept, as the current one
        M, three lengths           restore_list from the current image to the image: so many bytes of each, and room for so many
-       D                          a digest of all the list's bytes
+       D                          a digest of all the list's bytes and the trail's
+       Y, an output               valve_why of it, into the trail
        N                          valve_start again
        P                          the stack below is painted
        G                          how many bytes of the stack have lost their paint, down to the deepest
 
-   An answer is 16 bytes: the reply's length, seven bytes of nothing, the reply; that of W, I, L, M, D and G is the number returned. The
-   whole image and the whole list come behind the answers. */
+   An answer is 16 bytes: the reply's length, seven bytes of nothing, the reply; that of W, I, L, M, D, Y and G is the number returned. The
+   whole image, the whole list and the trail come behind the answers. */
 #include HEADER
 #include "bare.h"
 
@@ -25,6 +26,7 @@ struct event {
         uint8_t frame[8];
         int16_t samples[4];
         uint32_t length;
+        uint8_t output;
         struct {
             uint32_t place;
             uint8_t byte;
@@ -53,7 +55,7 @@ enum { IMAGE = 5300 };
 static struct event events[EVENTS];
 static struct answer answers[EVENTS];
 static uint64_t unit[512]; /* room for either side's */
-static uint8_t image[IMAGE], current[IMAGE], list[IMAGE];
+static uint8_t image[IMAGE], current[IMAGE], list[IMAGE], trail[64];
 
 /* No paint lies where a call puts its return address: what is gone from there down is the called function's own. */
 void paint(void);
@@ -73,6 +75,8 @@ static int32_t digest(void)
     uint32_t sum = 0;
     for (size_t i = 0; i < sizeof list; i++)
         sum = 31 * sum + list[i];
+    for (size_t i = 0; i < sizeof trail; i++)
+        sum = 31 * sum + trail[i];
     return (int32_t)sum;
 }
 
@@ -86,6 +90,8 @@ static int32_t call_for(const struct event *event)
         return CALL(SIDE, restore_list)(current, event->current, image, event->wanted, list, event->room);
     if (event->kind == 'D')
         return digest();
+    if (event->kind == 'Y')
+        return CALL(SIDE, why)((void *)unit, event->output, trail);
     if (event->kind == 'G')
         return gone();
     return CALL(SIDE, load)((void *)unit, image, event->length);
@@ -120,5 +126,6 @@ void run(void)
     call(SYS_WRITE, 1, answers, count * (long)sizeof *answers);
     call(SYS_WRITE, 1, image, sizeof image);
     call(SYS_WRITE, 1, list, sizeof list);
+    call(SYS_WRITE, 1, trail, sizeof trail);
     call(SYS_EXIT, 0, 0, 0);
 }

@@ -79,6 +79,7 @@ static uint32_t write(struct plain *s, const struct row *row, uint32_t sub, uint
     if (row->below && value - row->below_gap < word_at(s, at + row->below))
         return 0x06090032;
     set_word(s, at, value);
+    s->ticked = 0;
     return 0;
 }
 
@@ -426,6 +427,7 @@ static int32_t commanded(struct plain *s, int k)
 
 void plain_tick(struct plain *s, const int16_t *samples)
 {
+    __builtin_memcpy(s->before, s->signals, sizeof s->before);
     for (int k = 0; k < 4; k++)
         input(s, k, samples[k]);
     for (int k = 0; k < 4; k++) {
@@ -439,6 +441,110 @@ void plain_tick(struct plain *s, const int16_t *samples)
     for (int k = 0; k < 4; k++)
         s->command[k] = commanded(s, k);
     s->error_register = s->flagged[0] || s->flagged[1] || s->flagged[2] || s->flagged[3] ? 0x21 : 0;
+    s->ticked = 1;
+}
+
+/* ---- Why an output has its command */
+
+struct pair {
+    int32_t source, number;
+};
+
+/* The turn of the block that a pair names, 16 where it names none. */
+static int32_t block_of(struct pair p)
+{
+    switch (p.source) {
+    case 2: return p.number >= 1 && p.number <= 4 ? p.number - 1 : 16;
+    case 3: return p.number >= 1 && p.number <= 6 ? p.number + 7 : 16;
+    case 4: return p.number >= 1 && p.number <= 2 ? p.number + 13 : 16;
+    case 5: return p.number >= 1 && p.number <= 4 ? p.number + 3 : 16;
+    default: return 16;
+    }
+}
+
+/* What the block with that turn saw of a pair. */
+static struct signal saw(const struct plain *s, int32_t reader, struct pair p)
+{
+    int32_t block = block_of(p);
+    return block >= reader && block < 16 ? s->before[block] : signal_of(s, p.source, p.number);
+}
+
+/* The pair from which the block with that turn has its error, or else how the trail ends: 1 with a flag, 2 with a division by zero. */
+static int32_t cause(const struct plain *s, int32_t block, struct pair *p)
+{
+    if (block < 4)
+        return 1;
+    if (block >= 14) {
+        *p = (struct pair){3, s->selected[block - 14]};
+    } else if (block >= 8) {
+        *p = (struct pair){s->table[block - 8].source, s->table[block - 8].number};
+    } else {
+        const struct math *m = &s->math[block - 4];
+        for (int i = 0; i < 4; i++) {
+            *p = (struct pair){m->source[i], m->number[i]};
+            if (saw(s, block, *p).kind == FAULT)
+                return 0;
+        }
+        return 2;
+    }
+    return 0;
+}
+
+/* Steps and end behind the count. */
+static void put_trail(const struct plain *s, struct pair p, uint8_t *trail)
+{
+    uint8_t *at = trail + 1;
+    int32_t reader = 16, end = 0;
+    for (;;) {
+        int32_t block = block_of(p);
+        *at++ = (uint8_t)p.source;
+        *at++ = (uint8_t)p.number;
+        end = block >= reader ? 3 : cause(s, block, &p);
+        if (end)
+            break;
+        reader = block;
+    }
+    *trail = (uint8_t)((at - trail) / 2);
+    *at = (uint8_t)end;
+}
+
+static int32_t rule_of(const struct plain *s, int k, struct pair *p, struct signal *v)
+{
+    *p = (struct pair){s->enable_source[k], s->enable_number[k]};
+    *v = signal_of(s, p->source, p->number);
+    if (v->kind == FAULT)
+        return 2;
+    if (v->kind != ABSENT && !is_on(*v, s->enable_response[k]))
+        return 1;
+    *p = (struct pair){s->override_source[k], s->override_number[k]};
+    *v = signal_of(s, p->source, p->number);
+    if (v->kind == FAULT)
+        return 4;
+    if (v->kind != ABSENT && is_on(*v, s->override_response[k]))
+        return 3;
+    *p = (struct pair){s->control_source[k], s->control_number[k]};
+    *v = signal_of(s, p->source, p->number);
+    return v->kind == FAULT ? 5 : v->kind == ABSENT ? 6 : 7;
+}
+
+int32_t plain_why(const struct plain *s, uint8_t output, uint8_t *trail)
+{
+    static const uint8_t kinds[] = {[ABSENT] = 0, [WHOLE] = 1, [REAL] = 2, [FAULT] = 3};
+    struct pair p;
+    struct signal v;
+    int32_t rule;
+    if (output < 1 || output > 4)
+        return -1;
+    if (!s->ticked)
+        return -2;
+    rule = rule_of(s, output - 1, &p, &v);
+    trail[0] = (uint8_t)p.source;
+    trail[1] = (uint8_t)p.number;
+    trail[2] = kinds[v.kind];
+    store32(trail + 3, v.kind == WHOLE || v.kind == REAL ? (uint32_t)v.whole : 0);
+    if (v.kind == FAULT)
+        put_trail(s, p, trail + 7);
+    return rule;
 }
 
 /* ---- Images: a count, then a record for each entry of the configuration, the head of which is index, sub and size */
@@ -539,6 +645,7 @@ int32_t plain_load(struct plain *s, const uint8_t *image, size_t length)
         if (is_configured(row))
             for (int32_t at = row->word + (int32_t)first_sub(row); at <= row->word + row->last; at++)
                 set_word(s, at, word_at(&scratch, at));
+    s->ticked = 0;
     return 0;
 }
 

@@ -58,9 +58,16 @@ struct plain {
     int32_t override_source[4], override_number[4], override_response[4];
     int32_t out_pv1[4], out_fv1[4], out_pv2[4], out_fv2[4], command[4];
     /* What ticks remember and nobody can read. */
-    struct signal input_signal[4], math_signal[4], table_signal[6], logic_signal[2];
+    union {
+        struct {
+            struct signal input_signal[4], math_signal[4], table_signal[6], logic_signal[2];
+        };
+        struct signal signals[16]; /* the same, in the order of their turns */
+    };
     int32_t run[4], flagged[4];
     struct ramp ramp[4];
+    struct signal before[16]; /* the signals as the last tick found them */
+    int32_t ticked;           /* since the start, and since the last accepted write */
 };
 
 void plain_start(struct plain *s);
@@ -69,6 +76,7 @@ void plain_tick(struct plain *s, const int16_t *samples);
 int32_t plain_save(const struct plain *s, uint8_t *image, size_t length);
 int32_t plain_check(const uint8_t *image, size_t length);
 int32_t plain_load(struct plain *s, const uint8_t *image, size_t length);
+int32_t plain_why(const struct plain *s, uint8_t output, uint8_t *trail);
 int32_t plain_restore_list(const uint8_t *current, size_t current_length, const uint8_t *wanted, size_t wanted_length, uint8_t *list,
                            size_t list_length); /* as crates/gateway/restore_list.h has it */
 #endif

@@ -2,7 +2,7 @@
 
 A side is the program of drive.c over `plain` (plain.c), `valve` (the crates firmware and gateway) or `empty` (calls
 that do nothing). An event is a frame of 8 bytes, a tuple of four samples, one of Save, Check, Load and Spoil, which are
-about the image of a run, one of Keep, Make and Digest, which are about its list, or one of Start, Paint and Gone. Only the
+about the image of a run, one of Keep, Make and Digest, which are about its list, Why, or one of Start, Paint and Gone. Only the
 kit's compiler is used. On an x86-64 a run is counted by single steps, elsewhere by the log of the kit's emulator; both give
 every instruction.
 """
@@ -128,7 +128,13 @@ class Make(NamedTuple):
 
 
 class Digest(NamedTuple):
-    """Of the list's bytes, those behind it too."""
+    """Of the list's bytes, those behind it too, and the trail's."""
+
+
+class Why(NamedTuple):
+    """Why an output has its command."""
+
+    output: int = 1
 
 
 class Start(NamedTuple):
@@ -145,7 +151,7 @@ class Gone(NamedTuple):
 
 PAINTED = 8192
 LETTERS = {Save: b"W", Check: b"I", Load: b"L"}
-OTHER_LETTERS = {Keep: b"K", Make: b"M", Digest: b"D", Start: b"N", Paint: b"P", Gone: b"G"}
+OTHER_LETTERS = {Keep: b"K", Make: b"M", Digest: b"D", Why: b"Y", Start: b"N", Paint: b"P", Gone: b"G"}
 
 
 def _event(event):
@@ -168,7 +174,7 @@ def input_of(events):
 
 
 def answers_and_memory(program, events):
-    """The reply to each frame, empty where there is none, or the number returned; a tick's is empty. Then image and list."""
+    """The reply to each frame, empty where there is none, or the number returned; a tick's is empty. Then image, list and trail."""
     with input_of(events) as file:
         out = subprocess.run([*EMULATOR, program], stdin=file, stdout=subprocess.PIPE, check=True).stdout
     return read_answers(out, len(events))

@@ -1,4 +1,4 @@
-"""The libraries on emulated chips, against the same model as on x86-64: sessions, images and lists.
+"""The libraries on emulated chips, against the same model as on x86-64: sessions, images, lists and questions why.
 
     python3 chip.py [--seed S] [--lines N] [CHIP ..]
 
@@ -22,6 +22,8 @@ import images_cases
 import lists
 import lists_cases
 import spool
+import why
+import why_cases
 
 HERE = pathlib.Path(__file__).resolve().parent
 ROOT = HERE.parent
@@ -145,10 +147,24 @@ def compare_spools(chip, seed, lines):
     return driver.end() == 0, "the spool product, " + said
 
 
+def compare_questions(chip, seed, every):
+    driver = Driver(chip, "why")
+    bench = why.Bench(driver)
+    part = "by hand"
+    try:
+        why.check_by_hand(bench)
+        bench.play(why.longest())
+        for part, steps in why_cases.cases(seed, 400 // every, 2000):
+            bench.play(steps)
+    except images.Difference as found:
+        return False, "questions why, %s: %s" % (part, found)
+    return driver.end() == 0, "%d questions why: all equal" % bench.questions
+
+
 def compare(chip, seed, lines, every):
     """Whether all is equal on the chip; what was compared is said."""
     began, good = time.monotonic(), True
-    parts = [is_shut(chip), *compare_sessions(chip, seed, lines), compare_images(chip, seed, every), compare_lists(chip, seed, every), compare_spools(chip, seed, lines // 4)]
+    parts = [is_shut(chip), *compare_sessions(chip, seed, lines), compare_images(chip, seed, every), compare_lists(chip, seed, every), compare_spools(chip, seed, lines // 4), compare_questions(chip, seed, every)]
     for right, said in parts:
         good &= right
         print("\n".join("%s: %s" % (chip, line) for line in said.splitlines()), flush=True)

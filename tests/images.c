@@ -34,6 +34,8 @@ static void check_and_load(const uint8_t *bytes, size_t length)
     memcpy(copy, unit, sizeof copy);
     lend(&units, copy, sizeof copy);
     int32_t loaded = valve_load(unit, image, length);
+    if (loaded == 0) /* a load is a write: the mark of a tick, the unit's last word, is taken away */
+        memset(units.before + MOST - 4, 0, 4);
     if (touched(&images, image, 0))
         what |= TOUCHED_IMAGE_BY_LOAD;
     if (touched(&units, unit, loaded == 0 ? 4 * ENTRIES : 0))

@@ -422,10 +422,12 @@ class Pair:
 
     def __init__(self, blocks, source, number):
         self.blocks, self.source, self.number = blocks, source, number
+        self.seen = ABSENT
 
     def signal(self):
         block = self.blocks.get((self.source.value, self.number.value))
-        return ABSENT if block is None else block.signal
+        self.seen = ABSENT if block is None else block.signal  # as it is at the reader's own turn: (v) asks for it later
+        return self.seen
 
     def decimal(self, number):
         """(vii): "the decimal numbers they stand for", by the digits of the source "as they stand when compared" """

@@ -71,7 +71,7 @@ CHANGES = (
     ("outputs first", "(self.math, self.tables, self.logic, self.outputs)", "(self.outputs, self.math, self.tables, self.logic)"),
     ("each kind in falling order", "for block in row:\n                block.step()", "for block in reversed(row):\n                block.step()"),
     ("OP 20: 4530h cleared when math is switched off", "entry.value = kind.form.unpack_from(frame, 4)[0]", "entry.value = kind.form.unpack_from(frame, 4)[0]\n    if entry.index == 0x4500 and entry.value == 0: dictionary.entry(0x4530, entry.sub).value = 0.0"),
-    ("OP 22: a block switched off is missing at once", "return ABSENT if block is None else block.signal", "return ABSENT if block is None or isinstance(block, (Math, Logic)) and not block.enable.value else block.signal"),
+    ("OP 22: a block switched off is missing at once", "self.seen = ABSENT if block is None else block.signal", "self.seen = ABSENT if block is None or isinstance(block, (Math, Logic)) and not block.enable.value else block.signal"),
     ("OP 27: math entry keeps its last number", "self.output.value = self.signal if is_number(self.signal) else 0.0", "self.output.value = self.signal if is_number(self.signal) else self.output.value"),
     ("table entry keeps its last number", "self.signal = self.curve(integer16(x)) if is_number(x) else x\n        self.output.value = self.signal if is_number(self.signal) else 0", "self.signal = self.curve(integer16(x)) if is_number(x) else x\n        self.output.value = self.signal if is_number(self.signal) else self.output.value"),
     ("1001h stays", "if any(block.flagged for block in self.inputs) else 0", "if any(block.flagged for block in self.inputs) else self.error_register.value"),

@@ -41,6 +41,7 @@ SECONDS = 60  # far more than a run needs; what hangs is ended
 USES = """\
 ./run session                        serves a session: frames and ticks on standard input, an answer to each line
 ./run spool                          serves a session of the twin-coil spool product: after O what the two coils are sent
+./run why OUTPUT                     reads the lines of a session, then says in words why the output has its command
 ./run restore CURRENT WANTED LIST    writes the restore list of two image files, all of it or nothing
 ./run restore --show CURRENT WANTED  one line for each entry that differs, in send order
 ./run chip [CHIP]                    builds the libraries for a chip into target/chip/CHIP; without one, says which chips there are

@@ -9,6 +9,9 @@
  *     valve_commands(unit, commands);                                 and what it commands, four numbers
  *     if (valve_serve(unit, frame, 8, reply, 8) == 8) send(reply);    for each SDO request
  *
+ *     static uint8_t trail[VALVE_TRAIL];
+ *     int32_t rule = valve_why(unit, 1, trail);                       why output 1 has its command, for a technician
+ *
  *     static uint8_t image[VALVE_IMAGE];
  *     valve_save(unit, image, VALVE_IMAGE);                           the configuration as bytes to keep
  *     if (valve_load(unit, image, VALVE_IMAGE) != 0) complain();      and back, into this unit or another
@@ -29,7 +32,7 @@ extern "C" {
 #endif
 
 /* How many words a unit has. */
-#define VALVE_UNIT 725
+#define VALVE_UNIT 758
 
 /* Makes the unit a fresh one: every entry at its default, nothing remembered. What was in the array does not matter. */
 void valve_start(uint32_t *unit);
@@ -37,7 +40,8 @@ void valve_start(uint32_t *unit);
 /* Answers one SDO request of frame_length bytes (DS-301, expedited transfer): a read (40h), a write that tells its size (23h, 27h, 2Bh,
  * 2Fh), or one that does not (22h), of which as many bytes count as the entry has. Returns the reply's length: 8 where the first 8 bytes of
  * reply now hold the answer, which may be an abort, or 0 where there is no answer and reply is as it was: a frame that is not 8 long,
- * room for fewer than 8 bytes, or the client's own abort (80h). Only an accepted write changes the unit, and that in one entry. */
+ * room for fewer than 8 bytes, or the client's own abort (80h). Only an accepted write changes the unit, and that in one entry; valve_why
+ * then tells nothing until the next tick. */
 int32_t valve_serve(uint32_t *unit, const uint8_t *frame, uint64_t frame_length, uint8_t *reply, uint64_t reply_length);
 
 /* One tick of a millisecond on four samples, those of inputs 1 to 4. */
@@ -72,9 +76,37 @@ int32_t valve_save(const uint32_t *unit, uint8_t *image, uint64_t image_length);
 int32_t valve_check(const uint8_t *image, uint64_t image_length);
 
 /* Makes the image's configuration the unit's if valve_check would return 0, and returns what it would return. All else in the unit
- * stays as it is: the EC values, and what ticks published and remember. So a fresh unit with that configuration is valve_start, then
- * valve_load. */
+ * stays as it is: the EC values, and what ticks published and remember; but valve_why then tells nothing until the next tick. So a fresh
+ * unit with that configuration is valve_start, then valve_load. */
 int32_t valve_load(uint32_t *unit, const uint8_t *image, uint64_t image_length);
+
+/* The most bytes that valve_why writes. */
+#define VALVE_TRAIL 43
+
+/* Why none is told, in this order. All of trail then stays. */
+#define VALVE_NO_OUTPUT (-1) /* output is not 1 to 4 */
+#define VALVE_NO_TICK (-2)   /* no tick since valve_start, since the last frame answered 60h, or since an image was loaded */
+
+/* Why output 1 to 4 has its command: returns the rule that gave it at the last tick, 1 to 7, or one of the two numbers above. trail
+ * has room for VALVE_TRAIL bytes. It then has
+ *
+ *     0     source of the signal that decided, as it stands in 2350h (rules 1, 2), 2360h (rules 3, 4) or 2340h (rules 5 to 7)
+ *     1     its number, as it stands in 2351h, 2361h or 2341h; a pair that names nothing stays as it was typed
+ *     2     its kind: 0 not available, 1 whole number, 2 REAL32, 3 error
+ *     3-6   its value, low byte first: a whole number sign-extended, a REAL32 by its bits, else 0
+ *
+ * and for an error behind that
+ *
+ *     7     how many steps
+ *     8     the steps, a source and a number each: the signal that decided, then what it read, and so on. Of several inputs of a math
+ *           block in error the lowest-numbered is followed
+ *     then  how they end: VALVE_FLAGGED, VALVE_DIVIDED or VALVE_EARLIER
+ *
+ * Every byte behind stays. */
+#define VALVE_FLAGGED 1 /* the last step is an input that is flagged */
+#define VALVE_DIVIDED 2 /* it is a math block that divides by zero, none of its inputs being in error */
+#define VALVE_EARLIER 3 /* it is a block's signal taken from the tick before, which was in error then */
+int32_t valve_why(const uint32_t *unit, uint8_t output, uint8_t *trail);
 
 #ifdef __cplusplus
 }

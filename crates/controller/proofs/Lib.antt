@@ -5,6 +5,7 @@ pub mod Made
 pub mod Numbers
 pub mod Off
 pub mod Reals
+pub mod Recalled
 pub mod Saw
 pub mod Seen
 pub mod Shown

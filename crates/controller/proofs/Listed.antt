@@ -14,7 +14,8 @@ use lib.Seq.{take-all}
 use Rattle.numbers.specs.Choice.{first}
 use Rattle.numbers.specs.Signed.{pattern16}
 use Rattle.dictionary.specs.Names.{slot-of, words}
-use Rattle.dictionary.specs.Unit.{signals-at, runs-at, flags-at, ramps-at, unit-size}
+use Rattle.dictionary.specs.Unit.{signals-at, runs-at, flags-at, ramps-at, before-at, unit-size}
+use Rattle.dictionary.proofs.Unticked.{signals-behind, signals-before}
 use Rattle.dictionary.proofs.naming.NameLaws.{counted}
 use Rattle.unit.specs.Each.{each}
 use Rattle.unit.specs.Entry.{entry, publish}
@@ -25,12 +26,12 @@ use Rattle.input.specs.declared.Sensed.{Sensed}
 use Rattle.input.specs.Inputs.{settings, memory, inputTurn}
 use Rattle.input.proofs.ErrorLaws.{Of-list, number, one, same-errors, errors-noted, errors-few, noted-few, cut-on}
 use Rattle.controller.specs.Listed.{flaggings, Enter-in-front}
-use Rattle.controller.specs.Tick.{ticked}
+use Rattle.controller.specs.Tick.{recalled, ticked}
 use Rattle.controller.specs.Turns.{turnOf, at-turn}
 use Rattle.controller.proofs.Kept.{Kept, Publishes, sampled, processed, stands, fixed-last, kept-last, register-first, Clear, joined, lay-keeps, publish-keeps, remember-keeps}
 use Rattle.controller.proofs.Saw.{settings-saw, last-memory, memory-saw, published-twice}
 use Rattle.controller.proofs.TickLaws.{sized}
-use Rattle.controller.proofs.Turns.{Spared, from-then, to-last, input-turn}
+use Rattle.controller.proofs.Turns.{Spared, below-mark, recalled-keeps, from-then, to-last, input-turn}
 
 -- the words of the list are no block's and not 1001h
 aside : {slot : ℕ} → Of-list slot → (x : ℕ) → slot-of 0x1001 0 ≤ x → x < slot-of 0x5010 1 → slot ≡ x → ⊥
@@ -64,6 +65,9 @@ module _ {slot : ℕ} (o : Of-list slot) where
         ramp = λ l q w g e. omega (arith, in-words o);
         unlisted = λ l. absurd (omega arith);
       }
+
+  low : slot < before-at
+  low = omega (arith, in-words o, signals-behind, signals-before)
 
   last : slot ≡ slot-of 0x1001 0 → ⊥
   last = aside o (slot-of 0x1001 0) (omega arith) (omega (arith, register-first, fixed-last, counted))
@@ -126,10 +130,14 @@ module _ (samples : List ℤ) (unit : List ℕ) (size : length unit ≡ unit-siz
       ∙ turn-lists (at-turn samples unit (inputs + k)) (sized samples unit size (inputs + k) (omega arith)) k h (getD samples k (pos 0))
       ∙ rw (settings-saw samples unit size k h, last-memory samples unit size k h, ih, memory-saw samples unit size k h) (cut-on (new (k + 1) _ _) l 8 8 (lit≤ tt))
 
+  -- keeping the signals
+  found : (slot : ℕ) → Of-list slot → Kept slot unit (recalled unit)
+  found slot o = recalled-keeps (low o) unit
+
   -- the turns of inputs 1 to k
   first-turns : (k : ℕ) → k ≤ 4 → errors (at-turn samples unit k) ≡ take 8 (flaggings k unit (ticked samples unit) ++ errors unit)
   unfolding at-turn each flaggings
-  first-turns zero h = sym (take-all 8 (errors unit) (errors-few unit))
+  first-turns zero h = kept-list unit (recalled unit) found ∙ sym (take-all 8 (errors unit) (errors-few unit))
   first-turns (suc k) h =
       let rest = flaggings k unit (ticked samples unit) in
       let ih : errors (at-turn samples unit (inputs + k)) ≡ take 8 (rest ++ errors unit) = rw (zero-add k) (first-turns k (omega arith)) in
@@ -138,7 +146,7 @@ module _ (samples : List ℤ) (unit : List ℕ) (size : length unit ≡ unit-siz
 
   first-few : Few unit → (k : ℕ) → k ≤ 4 → Few (at-turn samples unit k)
   unfolding at-turn each
-  first-few few zero h = few
+  first-few few zero h = still-few (found (slot-of 0x1003 0) number) few
   first-few few (suc k) h =
       let u = at-turn samples unit k in
       let e : inputs + k + 1 ≡ suc k = omega arith in
@@ -147,7 +155,7 @@ module _ (samples : List ℤ) (unit : List ℕ) (size : length unit ≡ unit-siz
   -- no later turn
   last-turns : (slot : ℕ) → Of-list slot → Kept slot (at-turn samples unit 4) (ticked samples unit)
   unfolding at-turn each
-  last-turns slot o = to-last samples unit (last o) (from-then samples unit 3 20 (lit< tt) (lit≤ tt) (λ j l g. later o j l))
+  last-turns slot o = to-last samples unit (last o) (below-mark (low o)) (from-then samples unit 3 20 (lit< tt) (lit≤ tt) (λ j l g. later o j l))
 
   pub few-kept : Few unit → Few (ticked samples unit)
   few-kept few = still-few (last-turns (slot-of 0x1003 0) number) (first-few few 4 (lit≤ tt))

@@ -31,11 +31,11 @@ use Rattle.controller.proofs.Kept.{fixed-last}
 use Rattle.controller.proofs.TickLaws.{words-kept, tame}
 use Rattle.controller.proofs.Turns.{seen-by}
 
-ec-unpublished : (n : ℕ) → 0 < n → n ≤ 12 → Unpublished (slot-of 0x2500 n)
+pub ec-unpublished : (n : ℕ) → 0 < n → n ≤ 12 → Unpublished (slot-of 0x2500 n)
 unfolding has
 ec-unpublished n low high = before {slot = slot-of 0x2500 n} (omega (arith, array-sub 0x2500 refl n low high, counted))
 
-constant-unpublished : (n : ℕ) → 0 < n → n ≤ 15 → Unpublished (slot-of 0x5010 n)
+pub constant-unpublished : (n : ℕ) → 0 < n → n ≤ 15 → Unpublished (slot-of 0x5010 n)
 unfolding has
 constant-unpublished n low high = by (ltb n 3) refl where
   by : (b : Bool) → ltb n 3 ≡ b → Unpublished (slot-of 0x5010 n)

@@ -12,7 +12,8 @@ use Rattle.numbers.specs.Choice.{first}
 use Rattle.numbers.proofs.Choices.{chosen}
 use Rattle.dictionary.specs.Names.{slot-of}
 use Rattle.dictionary.proofs.naming.NameLaws.{counted}
-use Rattle.dictionary.specs.Unit.{signals-at, runs-at, flags-at, ramps-at}
+use Rattle.dictionary.specs.Unit.{signals-at, runs-at, flags-at, ramps-at, before-at, ticked-at}
+use Rattle.dictionary.proofs.Unticked.{signals-behind, signals-before, runs-before, flags-before, ramps-before, mark-behind}
 use Rattle.unit.specs.Each.{each}
 use Rattle.unit.specs.Held.{inputs, maths, tables, logics, blocks, place, at-row, held}
 use Rattle.math.specs.Maths.{mathTurn}
@@ -22,9 +23,9 @@ use Rattle.input.specs.Inputs.{inputTurn}
 use Rattle.output.specs.Outputs.{outputTurn}
 use Rattle.output.proofs.MotionLaws.{ramp-word}
 use Rattle.controller.specs.Register.{registered}
-use Rattle.controller.specs.Tick.{ticked}
+use Rattle.controller.specs.Tick.{recall, recalled, marked, ticked}
 use Rattle.controller.specs.Turns.{turnOf, at-turn, Seen-by}
-use Rattle.controller.proofs.Kept.{Kept, Publishes, sampled, processed, calculated, looked-up, selected, passed-on, commanded, owner, stands, fixed-last, kept-last, register-first, Clear, Unlisted, same, joined, all-keep, register-keeps, math-keeps, table-keeps, logic-keeps, output-keeps, input-keeps, own-turn, Of-row, row-kept}
+use Rattle.controller.proofs.Kept.{Kept, Publishes, sampled, processed, calculated, looked-up, selected, passed-on, commanded, owner, stands, fixed-last, kept-last, register-first, Clear, Unlisted, same, joined, all-keep, set-keeps, register-keeps, math-keeps, table-keeps, logic-keeps, output-keeps, input-keeps, own-turn, Of-row, row-kept}
 
 -- a slot that turn j + 1 does not set
 pub record Spared (slot j : ℕ) : Type 0 where
@@ -33,6 +34,14 @@ pub record Spared (slot j : ℕ) : Type 0 where
   pub signal : j < 16 → (slot ≡ place j → ⊥) × (slot ≡ place j + 1 → ⊥)
   pub ramp : 16 ≤ j → j < 20 → (w : ℕ) → w < 6 → slot ≡ ramp-word (j - 16) w → ⊥
   pub unlisted : j < 4 → Unlisted slot
+
+pub below-mark : {slot : ℕ} → slot < before-at → slot < ticked-at
+below-mark h = omega (arith, mark-behind)
+
+-- the signals are kept behind all that the turns use
+pub recalled-keeps : {slot : ℕ} → slot < before-at → (u : List ℕ) → Kept slot u (recalled u)
+unfolding recalled recall
+recalled-keeps {slot} low u = all-keep 32 recall (λ k l v. set-keeps v (before-at + (k + 1 - 1)) _ (λ e. omega arith)) same
 
 module _ (samples : List ℤ) where
   pub turn-keeps : {slot : ℕ} (j : ℕ) → j < 20 → Spared slot j → (u : List ℕ) → Kept slot u (turnOf samples (j + 1) u)
@@ -58,25 +67,29 @@ module _ (samples : List ℤ) where
 
   module _ (unit : List ℕ) where
     -- a slot that none of the first r turns sets
-    pub until : {slot : ℕ} (r : ℕ) → r ≤ 20 → ((j : ℕ) → j < r → Spared slot j) → Kept slot unit (at-turn samples unit r)
+    pub through : {slot : ℕ} (r : ℕ) → r ≤ 20 → ((j : ℕ) → j < r → Spared slot j) → Kept slot (recalled unit) (at-turn samples unit r)
     unfolding at-turn
-    until r h spared = all-keep r (turnOf samples) (λ k l. turn-keeps k (omega arith) (spared k l)) same
+    through r h spared = all-keep r (turnOf samples) (λ k l. turn-keeps k (omega arith) (spared k l)) same
+
+    pub until : {slot : ℕ} (r : ℕ) → r ≤ 20 → slot < before-at → ((j : ℕ) → j < r → Spared slot j) → Kept slot unit (at-turn samples unit r)
+    until r h low spared = joined (recalled-keeps low unit) (through r h spared)
 
     -- a slot that no turn behind turn k + 1 sets is as it left it
     pub from-then : {slot : ℕ} (k r : ℕ) → k < r → r ≤ 20 → ((j : ℕ) → k < j → j < 20 → Spared slot j) → Kept slot (turnOf samples (k + 1) (at-turn samples unit k)) (at-turn samples unit r)
     unfolding at-turn
-    from-then k r h l spared = own-turn (turnOf samples) 20 k (λ j later g. turn-keeps j g (spared j later g)) unit r h l
+    from-then k r h l spared = own-turn (turnOf samples) 20 k (λ j later g. turn-keeps j g (spared j later g)) (recalled unit) r h l
 
     -- so is a slot that only turn k + 1 sets
     pub since : {slot : ℕ} (k r : ℕ) → k < r → r ≤ 20 → ((j : ℕ) → j < 20 → (j ≡ k → ⊥) → Spared slot j) → Kept slot (turnOf samples (k + 1) (at-turn samples unit k)) (at-turn samples unit r)
     since k r h l spared = from-then k r h l (λ j later g. spared j g (λ e. omega arith))
 
-    pub all-turns : registered (at-turn samples unit 20) ≡ ticked samples unit
+    pub all-turns : marked (registered (at-turn samples unit 20)) ≡ ticked samples unit
     unfolding at-turn turnOf each ticked first
     all-turns = refl
 
-    pub to-last : {slot : ℕ} {u : List ℕ} → (slot ≡ slot-of 0x1001 0 → ⊥) → Kept slot u (at-turn samples unit 20) → Kept slot u (ticked samples unit)
-    to-last {slot} {u} other kept = subst (Kept slot u) all-turns (joined kept (register-keeps other (at-turn samples unit 20)))
+    pub to-last : {slot : ℕ} {u : List ℕ} → (slot ≡ slot-of 0x1001 0 → ⊥) → slot < ticked-at → Kept slot u (at-turn samples unit 20) → Kept slot u (ticked samples unit)
+    unfolding marked
+    to-last {slot} {u} other low kept = subst (Kept slot u) all-turns (joined kept (joined (register-keeps other (at-turn samples unit 20)) (set-keeps _ ticked-at 1 (λ e. omega arith))))
 
 -- ---- the two words of a signal, which only its own turn sets
 
@@ -91,6 +104,11 @@ row-spared h r j other =
       unlisted = λ l. (λ e. omega (arith, r .low, kept-last, counted), λ low high. omega (arith, r .low, fixed-last));
     }
 
+-- before what is kept of the last tick
+row-low : {row slot : ℕ} → row < 16 → Of-row row slot → slot < before-at
+unfolding place
+row-low h r = omega (arith, r .high, signals-before)
+
 row-last : {row slot : ℕ} → Of-row row slot → slot ≡ slot-of 0x1001 0 → ⊥
 unfolding place signals-at
 row-last r e = omega (arith, r .low, register-first, counted)
@@ -101,12 +119,12 @@ module _ (samples : List ℤ) (unit : List ℕ) (q : ℕ) (h : q < 16) where
   held-since r l m = row-kept q (λ slot o. since samples unit q r l m (λ j g other. row-spared h o j other))
 
   pub own : at-row (ticked samples unit) q ≡ at-row (turnOf samples (q + 1) (at-turn samples unit q)) q
-  own = row-kept q (λ slot o. to-last samples unit (row-last o) (since samples unit q 20 (omega arith) (lit≤ tt) (λ j g other. row-spared h o j other)))
+  own = row-kept q (λ slot o. to-last samples unit (row-last o) (below-mark (row-low h o)) (since samples unit q 20 (omega arith) (lit≤ tt) (λ j g other. row-spared h o j other)))
 
 pub seen-by : Seen-by
 seen-by samples unit r q h l = (
   λ g. held-since samples unit q l r g h ∙ sym (own samples unit q l),
-  λ g. row-kept q (λ slot o. until samples unit r h (λ j k. row-spared l o j (λ e. omega arith))),
+  λ g. row-kept q (λ slot o. until samples unit r h (row-low l o) (λ j k. row-spared l o j (λ e. omega arith))),
 )
 
 -- ---- a word that a block publishes, which only its own turn sets
@@ -123,13 +141,16 @@ own-only p j other =
       unlisted = λ l. (λ e. omega (arith, kept-last, register-first, counted), λ low high. omega (arith, fixed-last));
     }
 
+pub shown-low : {q at : ℕ} → Publishes q at → at < before-at
+shown-low p = omega (arith, stands p, fixed-last, signals-behind, signals-before)
+
 module _ (samples : List ℤ) (unit : List ℕ) {q at : ℕ} (p : Publishes q at) (h : q < 20) where
   pub shown : getD (ticked samples unit) at 0 ≡ getD (turnOf samples (q + 1) (at-turn samples unit q)) at 0
   shown = let mine = stands p in
-      to-last samples unit (λ e. omega arith) (since samples unit q 20 h (lit≤ tt) (λ j l other. own-only p j other)) .word
+      to-last samples unit (λ e. omega arith) (below-mark (shown-low p)) (since samples unit q 20 h (lit≤ tt) (λ j l other. own-only p j other)) .word
 
   pub last-shown : getD (at-turn samples unit q) at 0 ≡ getD unit at 0
-  last-shown = until samples unit q (omega arith) (λ j l. own-only p j (λ e. omega arith)) .word
+  last-shown = until samples unit q (omega arith) (shown-low p) (λ j l. own-only p j (λ e. omega arith)) .word
 
 -- ---- an input's run and flag, and the six words of an output's ramp
 
@@ -171,12 +192,17 @@ not-register (run k h) e = omega (arith, register-first, counted)
 not-register (flag k h) e = omega (arith, register-first, counted)
 not-register (ramp k w h g) e = omega (arith, register-first, counted)
 
+memory-low : {row at : ℕ} → Remembers row at → at < before-at
+memory-low (run k h) = omega (arith, runs-before)
+memory-low (flag k h) = omega (arith, flags-before)
+memory-low (ramp k w h g) = omega (arith, ramps-before)
+
 module _ (samples : List ℤ) (unit : List ℕ) {row at : ℕ} (m : Remembers row at) (h : row < 20) where
   pub remembered : getD (ticked samples unit) at 0 ≡ getD (turnOf samples (row + 1) (at-turn samples unit row)) at 0
-  remembered = to-last samples unit (not-register m) (since samples unit row 20 (omega arith) (lit≤ tt) (λ j l other. memory-spared m j other)) .word
+  remembered = to-last samples unit (not-register m) (below-mark (memory-low m)) (since samples unit row 20 (omega arith) (lit≤ tt) (λ j l other. memory-spared m j other)) .word
 
   pub last-remembered : getD (at-turn samples unit row) at 0 ≡ getD unit at 0
-  last-remembered = until samples unit row (omega arith) (λ j l. memory-spared m j (λ e. omega arith)) .word
+  last-remembered = until samples unit row (omega arith) (memory-low m) (λ j l. memory-spared m j (λ e. omega arith)) .word
 
 -- ---- the turns by their blocks
 

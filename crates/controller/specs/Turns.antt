@@ -21,7 +21,7 @@ use Rattle.table.specs.Tables.{tableTurn}
 use Rattle.logic.specs.Logics.{logicTurn}
 use Rattle.input.specs.Inputs.{inputTurn}
 use Rattle.output.specs.Outputs.{outputTurn}
-use Rattle.controller.specs.Tick.{ticked}
+use Rattle.controller.specs.Tick.{recalled, ticked}
 
 -- turn n of the twenty: inputs 1-4, math 1-4, tables 1-6, logic 1-2, outputs 1-4
 unfoldable pub turnOf : List ℤ → ℕ → List ℕ → List ℕ
@@ -37,7 +37,7 @@ turns = 20
 
 -- the unit as the turns before it left it for row r; rows 16 to 19 are the outputs, which have no signal
 unfoldable pub at-turn : List ℤ → List ℕ → ℕ → List ℕ
-at-turn samples unit r = each r (turnOf samples) unit
+at-turn samples unit r = each r (turnOf samples) (recalled unit)
 
 -- of every block before it a block sees this tick's signal, of itself and of every later block the last tick's
 abbrev pub Seen-by : Type 0

@@ -3,3 +3,4 @@ pub mod Once
 pub mod OneEach
 pub mod Sieve
 pub mod Tabulate
+pub mod Unticked

@@ -187,13 +187,18 @@ pub const RAMP_FV2: usize = RAMP_FV1 + 4;
 
 pub const RAMP_USED: usize = RAMP_FV2 + 4;
 
-pub const UNIT: usize = RAMP_USED + 4;
+// The signals as the last tick found them, and whether there was a tick since the start and since the last accepted write
+pub const BEFORE: usize = RAMP_USED + 4;
+
+pub const TICKED: usize = BEFORE + 2 * 16;
+
+pub const UNIT: usize = TICKED + 1;
 
 // The whole unit.
 pub type Unit = [u32; UNIT];
 
 // The places are the table's slots.
-fn places() -> [usize; 84]
+fn places() -> [usize; 86]
     ensures { λ r. ⌜ r ≡ places ⌝ }
 {
     [
@@ -274,6 +279,8 @@ fn places() -> [usize; 84]
         RAMP_FV1,
         RAMP_FV2,
         RAMP_USED,
+        BEFORE,
+        TICKED,
         UNIT,
         TABLE_ENTRIES,
         LOGIC_ENTRIES,

@@ -1,3 +1,4 @@
 pub mod Once
 pub mod Published
 pub mod Replies
+pub mod Whys

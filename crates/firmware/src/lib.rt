@@ -1,12 +1,12 @@
-// The unit for a firmware written in C: start, serve a frame, tick, what a tick commands; save, check and load an image. Each is the crate's below; valve.h
-// tells a C programmer all of it.
+// The unit for a firmware written in C: start, serve a frame, tick, what a tick commands and why; save, check and load an image. Each is the crate's below;
+// valve.h tells a C programmer all of it.
 ghost use mathlib.Core.Path.{_≡_};
 ghost use Rattle.controller.specs.Tick.{ticked};
 ghost use Rattle.roles.specs.Values.{at-start};
 ghost use Rattle.image.specs.Reading.{reading};
 ghost use Rattle.firmware.specs.Published as published;
 ghost use Rattle.firmware.specs.Replied.{Replied};
-ghost use Rattle.firmware.specs.Told.{ToldSaved, ToldLoaded};
+ghost use Rattle.firmware.specs.Told.{ToldSaved, ToldLoaded, ToldWhy};
 ghost use Rattle.image.specs.Told.{told};
 use controller::tick::tick;
 use dictionary::slots::COMMAND;
@@ -21,6 +21,9 @@ use sdo::serving::serve;
 use sdo::types::Answer;
 use unit::words::byte_at;
 use unit::words::whole_at;
+use why::asking::why;
+use why::types::TRAIL;
+use why::types::Why;
 
 #[no_mangle]
 pub extern "C" fn valve_start(unit: &mut Unit)
@@ -87,4 +90,17 @@ pub extern "C" fn valve_load(unit: &mut Unit, image: &[u8]) -> i32
     ensures { λ r. ⌜ ToldLoaded (now (unit .entry)) (now (image .entry)) (now (unit .exit)) r ⌝ }
 {
     number_of(read(image, unit))
+}
+
+// The rule, 1 to 7, or why none is told.
+#[no_mangle]
+pub extern "C" fn valve_why(unit: &Unit, output: u8, trail: &mut [u8; TRAIL]) -> i32
+    ensures { λ r. ⌜ ToldWhy (now (unit .entry)) output (now (trail .entry)) (now (trail .exit)) r ⌝ }
+{
+    let answer = why(unit, output, trail);
+    match answer {
+        Why::NoOutput => -1,
+        Why::NoTick => -2,
+        Why::Told(rule) => rule as i32,
+    }
 }

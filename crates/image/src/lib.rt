@@ -12,6 +12,7 @@ ghost use Rattle.image.specs.Reading.{reading, configuration-in};
 ghost use Rattle.image.specs.Loaded.{Loaded};
 use crate::reading::check;
 use dictionary::slots::EC_VALUE;
+use dictionary::slots::TICKED;
 use dictionary::slots::Unit;
 use records::data::data_in;
 use records::types::Outcome;
@@ -37,7 +38,10 @@ pub fn read(image: &[u8], unit: &mut Unit) -> Outcome
 {
     let outcome = check(image);
     match outcome {
-        Outcome::Good => load(image, unit),
+        Outcome::Good => {
+            unit[TICKED] = 0;
+            load(image, unit);
+        }
         Outcome::Refused(_) => {}
     }
     outcome

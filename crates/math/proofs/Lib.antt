@@ -1,2 +1,3 @@
+pub mod Divisions
 pub mod MathExample
 pub mod MathLaws

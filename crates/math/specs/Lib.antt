@@ -1,3 +1,4 @@
+pub mod Division
 pub mod Fold
 pub mod Math
 pub mod Maths

@@ -4,7 +4,9 @@ use Rattle.dictionary.proofs.OneEach as OneEach
 use Rattle.numbers.proofs.Bound as Bound
 use Rattle.output.proofs.Lasting as Lasting
 use Rattle.table.proofs.Curves as curves
+use Rattle.why.proofs.Fits as Fits
 use Rattle.promises.specs.Demands.{Demand-1, Demand-2, Demand-3, Asked-for}
+use Rattle.promises.proofs.Asking as Asking
 use Rattle.promises.proofs.Bench as Bench
 use Rattle.promises.proofs.Errors as Errors
 use Rattle.controller.proofs.Listed as Listed
@@ -112,6 +114,10 @@ asked-for =
       every-ramp-0-at-once = Ramps.every-ramp-0-at-once;
       starts-again = Ramps.starts-again;
       fits-32-bits = Bound.fits-32-bits;
+      told-as-it-was = Asking.told-as-it-was;
+      refused-exactly = Asking.refused-exactly;
+      one-answer-why = Asking.one-answer-why;
+      answers-fit = Fits.always-fits;
       never-dips = curves.never-dips;
       tables-never-dip = Curves.tables-never-dip;
       stays-between = curves.stays-between;

@@ -12,7 +12,8 @@ use lib.Seq.{take-all, getD-take, getD-drop}
 use borrow.Author.Tests.{le-ltb, eq-eqb, ne-eqb}
 use Rattle.numbers.specs.Choice.{first}
 use Rattle.dictionary.specs.Names.{slot-of, sought, configured, writable, words}
-use Rattle.dictionary.specs.Unit.{signals-at, runs-at, flags-at, unit-size}
+use Rattle.dictionary.specs.Unit.{signals-at, runs-at, flags-at, before-at, unit-size}
+use Rattle.dictionary.proofs.Unticked.{signals-behind, signals-before}
 use Rattle.dictionary.specs.Rows.{width}
 use Rattle.dictionary.specs.declared.types.Found.{Found}
 use Rattle.dictionary.specs.declared.types.Found.the-variants as found
@@ -43,7 +44,7 @@ use Rattle.controller.proofs.TickLaws.{length-kept}
 use Rattle.promises.specs.Errors.{clears, Only-cleared, Load-leaves-it, Agrees, Always-agrees, Names-error, Told, Read-exactly, recalls, recalled, Last-eight, What-went-wrong-first}
 use Rattle.promises.specs.Running.{Event, frame, tick, load, happens, run}
 use Rattle.promises.proofs.Clearing.{by-frame, frame-size, register-left}
-use Rattle.promises.proofs.Running.{sizes, size-at-start, kept-by-load}
+use Rattle.promises.proofs.Running.{sizes, size-at-start, low-by-load, size-by-load}
 
 pub only-cleared : Only-cleared
 only-cleared unit f room size =
@@ -56,10 +57,14 @@ behind : {slot : ℕ} → Of-list slot → configured ≤ slot
 behind number = omega (arith, error-slots, counted)
 behind (one low high) = omega (arith, error-slots, counted)
 
+inside : {slot : ℕ} → Of-list slot → slot < before-at
+inside number = omega (arith, error-slots, counted, signals-behind, signals-before)
+inside (one low high) = omega (arith, error-slots, counted, signals-behind, signals-before)
+
 pub load-leaves-it : Load-leaves-it
 load-leaves-it image unit size =
-    let kept = kept-by-load image unit (omega (arith, size, sizes)) (Image.reading image) in
-    same-errors unit (loaded image unit (Image.reading image)) (kept configured (omega arith) .size) (λ slot o. kept slot (behind o) .word)
+    let long : configured ≤ length unit = omega (arith, size, sizes) in
+    same-errors unit (loaded image unit (Image.reading image)) (size-by-load image unit long (Image.reading image)) (λ slot o. low-by-load image unit long (Image.reading image) slot (behind o) (inside o) .word)
 
 -- ---- what is asked of it
 
@@ -170,8 +175,8 @@ still-fit (frame f room) unit h = record { size = frame-size unit (answer unit f
     go false e = omega (arith, by-frame unit f room (h .size) (answer unit f room) refl .1 e .1, h .few)
 still-fit (tick samples) unit h = record { size = length-kept samples unit ∙ h .size; few = few-kept samples unit (h .size) (h .few) }
 still-fit (load image) unit h =
-    let kept = kept-by-load image unit (omega (arith, h .size, sizes)) (Image.reading image) in
-    record { size = kept configured (omega arith) .size ∙ h .size; few = omega (arith, kept (slot-of 0x1003 0) (behind number) .word, h .few) }
+    let kept = low-by-load image unit (omega (arith, h .size, sizes)) (Image.reading image) (slot-of 0x1003 0) (behind number) (inside number) in
+    record { size = kept .size ∙ h .size; few = omega (arith, kept .word, h .few) }
 
 fit-on : (events : List Event) (unit : List ℕ) → Fit unit → Fit (run events unit)
 unfolding run

@@ -10,6 +10,7 @@ use lib.ListN.{length, take, drop}
 use lib.Seq.{take-at}
 use Rattle.numbers.specs.Choice.{first}
 use Rattle.dictionary.specs.Names.{configured, words, index-at, sub-at}
+use Rattle.dictionary.specs.Unit.{unticked}
 use Rattle.dictionary.proofs.OneEach.{slots-apart}
 use Rattle.roles.specs.Values.{at-start}
 use Rattle.records.specs.Layout.{listed, entry, image-of}
@@ -81,14 +82,14 @@ saved-reads-back events buffer buffer′ other other′ w r made s g l =
     let good : reading (take image-size buffer′) ≡ Good = ap reading image ∙ accepts (image-of unit) (image-accepted unit (sound .valid) long) in (
       l .answered ∙ good,
       l .state ∙ ap (loaded (take image-size buffer′) other) good
-          ∙ ap (λ (c : List ℕ). c ++ drop configured other) (ap configuration-in image ∙ configuration-back unit (sound .valid) long),
+          ∙ ap (λ (c : List ℕ). c ++ drop configured (unticked other)) (ap configuration-in image ∙ configuration-back unit (sound .valid) long),
     )
 
 pub same-bytes-again : Same-bytes-again
 unfolding loaded
 same-bytes-again image unit unit′ buffer buffer′ r w b l g s h =
     let good = sym (l .answered) ∙ g in
-    image-there s h ∙ ap image-of (l .state ∙ ap (loaded image unit) good) ∙ bytes-again image (accepted image good) b (drop configured unit)
+    image-there s h ∙ ap image-of (l .state ∙ ap (loaded image unit) good) ∙ bytes-again image (accepted image good) b (drop configured (unticked unit))
 
 pub accepts-exactly : Accepts-exactly
 accepts-exactly = (

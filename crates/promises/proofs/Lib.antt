@@ -1,4 +1,5 @@
 pub mod Accepted
+pub mod Asking
 pub mod Bench
 pub mod ByWay
 pub mod ByteLaws
@@ -6,6 +7,7 @@ pub mod Clearing
 pub mod Curves
 pub mod Demands
 pub mod Errors
+pub mod Forgetting
 pub mod FrameRefusals
 pub mod ImageRefusals
 pub mod Images

@@ -16,12 +16,13 @@ use Rattle.numbers.specs.Signed.{twos, signed16}
 use Rattle.numbers.proofs.Choices.{chosen}
 use Rattle.numbers.proofs.OrderLaws.{≤ℤ-trans}
 use Rattle.numbers.proofs.Orders.{not-below-is-le}
-use Rattle.dictionary.specs.Names.{slot-of, writable, configured}
+use Rattle.dictionary.specs.Names.{slot-of, writable, configured, words}
 use Rattle.dictionary.specs.Rows.{i16-between}
 use Rattle.dictionary.specs.declared.types.Range.{Range}
 use Rattle.dictionary.specs.declared.types.Kind.the-variants.{Integer16}
 use Rattle.dictionary.proofs.Tabulate.{tabulate, agree}
 use Rattle.dictionary.proofs.naming.NameLaws.{counted}
+use Rattle.dictionary.proofs.Unticked.{signals-behind, signals-before, words-stay}
 use Rattle.roles.specs.Values.{range-of, starts, at-start}
 use Rattle.entries.specs.Judge.{number-of, finite, within, in-range}
 use Rattle.entries.specs.Valid.{Valid}
@@ -44,7 +45,7 @@ use Rattle.controller.specs.Commands.{ruleFor, Commanded}
 use Rattle.promises.specs.Running.{Event, frame, tick, load, happens, run, Made-of-bytes, Sound}
 use Rattle.promises.specs.Spool.{Commands-not-below-0}
 use Rattle.promises.proofs.Accepted as Accepted
-use Rattle.promises.proofs.Running.{sound-on, sizes, kept-by-load, size-at-start, always-sound}
+use Rattle.promises.proofs.Running.{sound-on, sizes, low-by-load, size-at-start, always-sound}
 use Rattle.promises.proofs.Ticking.{each-tick}
 
 abbrev Not-below : List ℕ → Type 0
@@ -56,6 +57,10 @@ module _ (k : ℕ) (h : k < 4) where
   unwritten : writable ≤ slot-of 0x7330 (k + 1)
   unfolding has
   unwritten = omega (arith, array 0x7330 refl k h, counted)
+
+  in-words : slot-of 0x7330 (k + 1) < words
+  unfolding has
+  in-words = omega (arith, array 0x7330 refl k h, counted)
 
   limit-there : slot-of 0x7321 (k + 1) < configured
   unfolding has
@@ -130,12 +135,12 @@ module _ (unit : List ℕ) (n : Not-below unit) (k : ℕ) (h : k < 4) where
   by-frame f room (Value w m) e = n k h
   by-frame f room (Written slot word) e =
       let below = Accepted.accepted unit f room slot word e .below in
-      rw (getD-set-other unit slot (slot-of 0x7330 (k + 1)) word 0 (λ q. omega (arith, below, unwritten k h))) (n k h)
+      rw (words-stay (set unit slot word) (slot-of 0x7330 (k + 1)) (in-words k h), getD-set-other unit slot (slot-of 0x7330 (k + 1)) word 0 (λ q. omega (arith, below, unwritten k h))) (n k h)
 
   by-load : (image : List ℕ) → Sound unit → pos 0 ≤ℤ whole (loaded image unit (reading image)) 0x7330 (k + 1)
   unfolding whole entry
   by-load image s =
-      rw (kept-by-load image unit (omega (arith, s .size, sizes)) (reading image) (slot-of 0x7330 (k + 1)) (omega (arith, unwritten k h, counted)) .word) (n k h)
+      rw (low-by-load image unit (omega (arith, s .size, sizes)) (reading image) (slot-of 0x7330 (k + 1)) (omega (arith, unwritten k h, counted)) (omega (arith, in-words k h, signals-behind, signals-before)) .word) (n k h)
 
   by-tick : (samples : List ℤ) → Sound unit → Sound (ticked samples unit) → pos 0 ≤ℤ whole (ticked samples unit) 0x7330 (k + 1)
   unfolding settings

@@ -4,6 +4,7 @@ use Prim.Native.Nat.{ℕ, suc, _+_, _<_}
 use mathlib.Core.List.{List}
 use mathlib.Core.Path.{_≡_, refl, sym, ap, _∙_, subst}
 use lib.IntN.{ℤ}
+use lib.ListN.{set}
 use lib.Signed.{_<ℤ_}
 use native.Mathlib.Omega.{arith}
 use Rattle.numbers.specs.Choice.{first}
@@ -12,6 +13,7 @@ use Rattle.dictionary.proofs.Tabulate.{tabulate, agree}
 use Rattle.dictionary.specs.Names.{slot-of, words}
 use Rattle.dictionary.specs.Unit.{signals-at, runs-at, flags-at, ramps-at, ramp-count-at, unit-size}
 use Rattle.dictionary.proofs.naming.NameLaws.{counted}
+use Rattle.dictionary.proofs.Unticked.{ramps-before}
 use Rattle.roles.specs.Values.{starts, at-start}
 use Rattle.signals.specs.Signal as signals
 use Rattle.sdo.specs.Answers.{answer}
@@ -29,12 +31,13 @@ use Rattle.output.proofs.MotionLaws.{ramp-word}
 use Rattle.unit.specs.Entry.{entry, whole}
 use Rattle.controller.specs.Commands.{Commanded, control, ruleFor}
 use Rattle.controller.specs.Tick.{ticked}
-use Rattle.controller.proofs.Commands.{same-motion, motion-unwritten}
+use Rattle.controller.proofs.Commands.{same-motion, motion-unwritten, motion-forgotten}
 use Rattle.controller.proofs.Kept.{Publishes, stands, register-first}
+use Rattle.controller.proofs.Turns.{shown-low}
 use Rattle.promises.specs.Ramps.{aim, Toward, Runs, Every-ramp-lasts, Every-ramp-moves-on, Every-ramp-on-time, Every-ramp-0-at-once, Starts-again}
 use Rattle.promises.specs.Running.{frame, load, happens, Sound}
 use Rattle.promises.proofs.Accepted.{accepted}
-use Rattle.promises.proofs.Running.{sizes, kept-by-load, sound-after-frame, sound-after-tick, sound-after-load}
+use Rattle.promises.proofs.Running.{sizes, low-by-load, sound-after-frame, sound-after-tick, sound-after-load}
 use Rattle.promises.proofs.Ticking.{limits-rise, each-tick}
 
 -- a frame writes at most one word, and none of an output's motion
@@ -43,7 +46,8 @@ unfolding after
 kept-by-frame i h unit f room Silent e = refl
 kept-by-frame i h unit f room (Aborted a) e = refl
 kept-by-frame i h unit f room (Value w n) e = refl
-kept-by-frame i h unit f room (Written slot word) e = motion-unwritten unit slot word i (accepted unit f room slot word e .below) h
+kept-by-frame i h unit f room (Written slot word) e =
+    motion-forgotten (set unit slot word) i h ∙ motion-unwritten unit slot word i (accepted unit f room slot word e .below) h
 
 frames-keep : (i : ℕ) → i < 4 → (unit f : List ℕ) (room : ℕ) → motion (happens (frame f room) unit) (i + 1) ≡ motion unit (i + 1)
 unfolding happens
@@ -53,10 +57,10 @@ frames-keep i h unit f room = kept-by-frame i h unit f room (answer unit f room)
 loads-keep : (i : ℕ) → i < 4 → (unit image : List ℕ) → Sound unit → motion (happens (load image) unit) (i + 1) ≡ motion unit (i + 1)
 unfolding happens entry ramps-at
 loads-keep i h unit image sound =
-    let kept = kept-by-load image unit (omega (arith, sound .size, sizes)) (reading image) in
+    let kept = low-by-load image unit (omega (arith, sound .size, sizes)) (reading image) in
     same-motion unit (loaded image unit (reading image)) i
-    (kept (slot-of 0x7330 (i + 1)) (omega (arith, stands (Publishes.commanded i h), register-first, counted)) .word)
-    (λ w g. kept (ramp-word i w) (omega (arith, counted)) .word)
+    (kept (slot-of 0x7330 (i + 1)) (omega (arith, stands (Publishes.commanded i h), register-first, counted)) (shown-low (Publishes.commanded i h)) .word)
+    (λ w g. kept (ramp-word i w) (omega (arith, counted)) (omega (arith, ramps-before)) .word)
 
 -- one tick, by its rule
 module _ (i : ℕ) (h : i < 4) (unit : List ℕ) (sound : Sound unit) (samples : List ℤ) where

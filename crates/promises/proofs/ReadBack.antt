@@ -10,7 +10,9 @@ use Rattle.numbers.specs.Choice.{first}
 use Rattle.dictionary.specs.Names.{find}
 use Rattle.dictionary.proofs.naming.Sought.{still-sought}
 use Rattle.dictionary.specs.declared.types.Found.the-variants.{At}
-use Rattle.dictionary.specs.Unit.{unit-size}
+use Rattle.dictionary.specs.Unit.{unit-size, unticked}
+use Rattle.dictionary.proofs.naming.NameLaws.{counted}
+use Rattle.dictionary.proofs.Unticked.{words-stay}
 use Rattle.roles.specs.Values.{range-of}
 use Rattle.sdo.specs.Answers.{size-of, reading, obeyed, answer}
 use Rattle.octets.specs.Little.{little, bytes, Bytes}
@@ -46,15 +48,16 @@ module _ (words frame : List ℕ) (slot word : ℕ) (a : Accepted words frame sl
     unfolding command-of first
     a-read = rw c
 
-    value-back : answer (set words slot word) query 8 ≡ Value word (size-of slot)
+    value-back : answer (unticked (set words slot word)) query 8 ≡ Value word (size-of slot)
     unfolding obeyed reading
     value-back =
-        sym (spoken (set words slot word) query 8 eight (omega arith) (λ e. omega arith))
-        ∙ ap (obeyed (set words slot word) query) a-read
-        ∙ ap (reading (set words slot word)) (still-sought (set words slot word) (index-in query) (sub-in query) slot same-name (a .below))
-        ∙ ap (λ (w : ℕ). Value w (size-of slot)) (there words frame slot word a l)
+        let after = unticked (set words slot word) in
+        sym (spoken after query 8 eight (omega arith) (λ e. omega arith))
+        ∙ ap (obeyed after query) a-read
+        ∙ ap (reading after) (still-sought after (index-in query) (sub-in query) slot same-name (a .below))
+        ∙ ap (λ (w : ℕ). Value w (size-of slot)) (words-stay (set words slot word) slot (omega (arith, a .below, counted)) ∙ there words frame slot word a l)
 
-    pub reply-back : reply-to query (answer (set words slot word) query 8) ≡ read-command (size-of slot) ∷ name-in frame ++ take (size-of slot) (drop 4 frame) ++ replicate (4 - size-of slot) 0
+    pub reply-back : reply-to query (answer (unticked (set words slot word)) query 8) ≡ read-command (size-of slot) ∷ name-in frame ++ take (size-of slot) (drop 4 frame) ++ replicate (4 - size-of slot) 0
     unfolding reply-to reply name-in
     reply-back =
         ap (reply-to query) value-back

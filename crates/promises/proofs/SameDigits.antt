@@ -6,8 +6,8 @@ use mathlib.Core.List.{List, [], _∷_}
 use mathlib.Core.Path.{_≡_, refl, sym, ap, _∙_}
 use native.Mathlib.Omega.{arith}
 use borrow.Author.Tests.{ltb-true, ltb-false, lt-ltb, le-ltb}
-use lib.Dec.{ltb}
-use lib.ListN.{length, getD, length-set}
+use lib.Dec.{eqb, ltb}
+use lib.ListN.{length, getD, set}
 use lib.IntN.{ℤ, pos, negsuc, negℤ, _*ℤ_, negsuc-*ℤ-pos}
 use Rattle.numbers.specs.Choice.{first}
 use Rattle.numbers.specs.Order.{below}
@@ -15,7 +15,8 @@ use Rattle.signals.specs.Signal.{whole}
 use Rattle.signals.specs.declared.signal.Signal.the-variants.{Whole, Real, Error, Absent}
 use Rattle.signals.specs.Words.{ofWords}
 use Rattle.dictionary.specs.Names.{configured, writable, words, slot-of}
-use Rattle.dictionary.specs.Unit.{signals-at, runs-at, flags-at, unit-size}
+use Rattle.dictionary.specs.Unit.{signals-at, runs-at, flags-at, before-at, unit-size}
+use Rattle.dictionary.proofs.Unticked.{signals-behind, signals-before, mark-behind, forgets-only}
 use Rattle.dictionary.proofs.naming.NameLaws as Names
 use Rattle.roles.specs.Values.{starts, at-start}
 use Rattle.sdo.specs.Answers.{answer}
@@ -25,7 +26,7 @@ use Rattle.sdo.specs.Served.{after}
 use Rattle.image.specs.Loaded.{loaded}
 use Rattle.image.specs.Reading.{reading}
 use Rattle.unit.specs.Entry.{entry}
-use Rattle.unit.specs.Held.{tables, logics, place, at-row, held}
+use Rattle.unit.specs.Held.{tables, logics, blocks, place, at-row, held}
 use Rattle.unit.specs.Sources.{among, sourced}
 use Rattle.unit.proofs.Slots.{has, array}
 use Rattle.controller.proofs.Kept.{set-keeps}
@@ -36,6 +37,7 @@ use Rattle.logic.specs.Logic.{judged}
 use Rattle.promises.specs.Running.{Event, frame, tick, load, happens, run}
 use Rattle.promises.specs.SameDigits.{thousandths, Same-digits, Reals-as-before, Given-by-its-table}
 use Rattle.promises.proofs.Accepted as Accepted
+use Rattle.promises.proofs.Forgetting.{size-stored}
 use Rattle.promises.proofs.Running as Running
 
 -- ---- one order by two pairs of factors
@@ -151,18 +153,31 @@ record Selects (unit : List ℕ) : Type 0 where
   size : length unit ≡ unit-size
   given : (k : ℕ) → k < 2 → held unit logics (k + 1) ≡ sourced unit 3 (entry unit 0x4010 (k + 1))
 
--- both stand behind what can be written
-module _ (u v : List ℕ) (same : (slot : ℕ) → writable ≤ slot → getD v slot 0 ≡ getD u slot 0) where
-  held-same : (kind n : ℕ) → held v kind n ≡ held u kind n
-  unfolding held at-row place signals-at
-  held-same kind n = rw (same (words + 2 * (kind + (n - 1))) (omega (arith, Names.counted)), same (words + 2 * (kind + (n - 1)) + 1) (omega (arith, Names.counted)))
+-- both stand behind what can be written, and before what the last tick found
+module _ (u v : List ℕ) (same : (slot : ℕ) → writable ≤ slot → slot < before-at → getD v slot 0 ≡ getD u slot 0) where
+  held-same : (kind n : ℕ) → kind + (n - 1) < blocks → held v kind n ≡ held u kind n
+  unfolding held at-row place
+  held-same kind n h =
+      let at = signals-at + 2 * (kind + (n - 1)) in
+      rw (same at (omega (arith, Names.counted, signals-behind)) (omega (arith, signals-before)), same (at + 1) (omega (arith, Names.counted, signals-behind)) (omega (arith, signals-before)))
+
+  -- a number past the last table's names nothing
+  table-same : (n : ℕ) → sourced v 3 n ≡ sourced u 3 n
+  unfolding sourced among first
+  table-same n = by (ltb 6 n) refl
+    where
+      by : (past : Bool) → ltb 6 n ≡ past → first (eqb n 0) Absent (first past Absent (held v tables n)) ≡ first (eqb n 0) Absent (first past Absent (held u tables n))
+      by true e = refl
+      by false e = let l = ltb-false 6 n e in rw (held-same tables n (omega arith))
 
   still : length v ≡ length u → Selects u → Selects v
-  unfolding sourced among entry first has
+  unfolding entry has
   still long s =
       record {
         size = long ∙ s .size;
-        given = λ k h. rw (held-same logics (k + 1), same (slot-of 0x4010 (k + 1)) (omega (arith, Names.counted, array 0x4010 refl k h)), held-same tables) (s .given k h);
+        given = λ k h. let here = array 0x4010 refl k h in
+            held-same logics (k + 1) (omega arith) ∙ s .given k h ∙ sym (table-same _)
+            ∙ ap (sourced v 3) (sym (same (slot-of 0x4010 (k + 1)) (omega (arith, Names.counted)) (omega (arith, Names.counted, signals-behind, signals-before))));
       }
 
 after-frame : (unit f : List ℕ) (room : ℕ) (a : Answer) → answer unit f room ≡ a → Selects unit → Selects (after unit a)
@@ -172,12 +187,12 @@ after-frame unit f room (Aborted a) e s = s
 after-frame unit f room (Value w n) e s = s
 after-frame unit f room (Written slot word) e s =
     let under = Accepted.accepted unit f room slot word e .below in
-    still unit _ (λ k h. set-keeps unit slot word (λ z. omega arith) .word) (length-set unit slot word) s
+    still unit _ (λ k h l. forgets-only (set unit slot word) k (λ z. omega (arith, mark-behind)) ∙ set-keeps unit slot word (λ z. omega arith) .word) (size-stored unit slot word) s
 
 after-load : (unit image : List ℕ) → Selects unit → Selects (loaded image unit (reading image))
 after-load unit image s =
-    let kept = Running.kept-by-load image unit (omega (arith, s .size, Running.sizes)) (reading image) in
-    still unit _ (λ k h. kept k (omega (arith, Names.counted)) .word) (kept configured (omega arith) .size) s
+    let long : configured ≤ length unit = omega (arith, s .size, Running.sizes) in
+    still unit _ (λ k h l. Running.low-by-load image unit long (reading image) k (omega (arith, Names.counted)) l .word) (Running.size-by-load image unit long (reading image)) s
 
 on : (events : List Event) (unit : List ℕ) → Selects unit → Selects (run events unit)
 unfolding run happens

@@ -5,7 +5,7 @@ use mathlib.Core.Bool.{Bool, true, false, _&&_, not, and-eq-true-iff}
 use mathlib.Core.List.{List, _∷_, _++_}
 use Prim.Native.Nat.{ℕ, _-_}
 use native.Mathlib.Omega.{arith}
-use lib.ListN.{length, getD, set, take, drop, replicate, length-drop}
+use lib.ListN.{length, getD, set, take, drop, replicate, length-drop, length-set}
 use lib.Dec.{eqb, ltb}
 use lib.Seq.{getD-set-other}
 use borrow.Author.Tests.{le-ltb, ne-eqb, eqb-false, not-true}
@@ -19,7 +19,8 @@ use Rattle.dictionary.specs.Unit.{unit-size}
 use Rattle.dictionary.specs.declared.types.Kind.{Kind}
 use Rattle.dictionary.specs.declared.types.Found.{Found}
 use Rattle.dictionary.specs.declared.types.Found.the-variants as found
-use Rattle.dictionary.proofs.naming.NameLaws.{counted}
+use Rattle.dictionary.proofs.naming.NameLaws.{counted, found-below}
+use Rattle.dictionary.proofs.Unticked.{forgets-only, words-stay, forgotten}
 use Rattle.dictionary.proofs.OneEach.{names-apart}
 use Rattle.entries.specs.Judge.{judged}
 use Rattle.entries.specs.Valid.{Valid}
@@ -45,6 +46,7 @@ use Rattle.promises.proofs.Judged.{judged-same}
 use Rattle.promises.specs.Delivery.{write-command}
 use Rattle.promises.proofs.ReadBack.{reply-back}
 use Rattle.promises.proofs.RecordFrames.{commands, no-abort}
+use Rattle.promises.proofs.Forgetting.{valid-forgotten}
 use Rattle.promises.proofs.Writing.{still-valid}
 
 pub untouched : Untouched
@@ -69,8 +71,9 @@ that-one-entry unit frame room slot word e =
     let a = accepted unit frame room slot word e in
     record {
       own = a .found;
-      others = λ index sub other f different. getD-set-other unit slot other word 0 (λ q. different (names-apart index sub (index-in frame) (sub-in frame) slot (f ∙ ap found.At q) (a .found)));
-      remembered = λ k h. getD-set-other unit slot k word 0 (λ q. omega (arith, a .below, counted));
+      others = λ index sub other f different. words-stay (set unit slot word) other (found-below index sub (found.At other) (sym f)) ∙ getD-set-other unit slot other word 0 (λ q. different (names-apart index sub (index-in frame) (sub-in frame) slot (f ∙ ap found.At q) (a .found)));
+      remembered = λ k h unmarked. forgets-only (set unit slot word) k unmarked ∙ getD-set-other unit slot k word 0 (λ q. omega (arith, a .below, counted));
+      forgets = λ size. forgotten (set unit slot word) (length-set unit slot word ∙ size);
     }
 
 pub determined : Determined
@@ -86,7 +89,7 @@ stays-valid = (valid-at-start, λ words frame room l b v. kept words frame room 
     kept words frame room l b v Silent e = v
     kept words frame room l b v (Aborted x) e = v
     kept words frame room l b v (Value w n) e = v
-    kept words frame room l b v (Written slot word) e = still-valid words frame slot word (accepted words frame room slot word e) l b v
+    kept words frame room l b v (Written slot word) e = valid-forgotten (set words slot word) (still-valid words frame slot word (accepted words frame room slot word e) l b v)
 
 pub reads-back : Reads-back
 unfolding after

@@ -77,7 +77,7 @@ module _ (unit : List ℕ) (v : Valid unit) where
   strictly i s j t h e = not-false _ (ap (λ (l : Link). judge.past-upper unit l (entry.whole unit i s)) (sym e) ∙ v .linked (slot-of i s) h)
 
   module _ (k : ℕ) (h : k < 4) where
-    rising : Rising unit (k + 1)
+    pub rising : Rising unit (k + 1)
     unfolding has have
     rising =
         record {

@@ -4,10 +4,10 @@ use mathlib.Core.Path.{_≡_, refl, sym, ap, _∙_}
 use mathlib.Core.List.{List, [], _∷_, _++_, map}
 use Prim.Native.Nat.{ℕ, _<_, _≤_}
 use native.Mathlib.Omega.{arith}
-use lib.ListN.{length, getD, set, take, drop, length-set}
+use lib.ListN.{length, getD, set, take, drop}
 use lib.Seq.{getD-set-other, getD-take, ext-getD, length-take-le}
 use Rattle.dictionary.specs.Names.{configured}
-use Rattle.dictionary.specs.Unit.{unit-size}
+use Rattle.dictionary.specs.Unit.{unit-size, unticked}
 use Rattle.entries.proofs.Configuration.{can-be-written, in-unit}
 use Rattle.dictionary.proofs.naming.NameLaws as Names
 use Rattle.entries.specs.Valid.{Valid}
@@ -29,7 +29,8 @@ use Rattle.controller.proofs.TickLaws as Tick
 use Rattle.promises.specs.Running.{Event, frame, tick, load, happens}
 use Rattle.promises.specs.Restoring.{Proper, Calm, Sent, Holds}
 use Rattle.promises.proofs.Proper.{good}
-use Rattle.promises.proofs.Running.{sizes, all-words, kept-by-tick, kept-by-load}
+use Rattle.promises.proofs.Forgetting.{front-forgotten, size-stored}
+use Rattle.promises.proofs.Running.{sizes, all-words, kept-by-tick, size-by-load}
 
 -- ---- a calm event keeps the configuration's words
 
@@ -44,7 +45,10 @@ by-answer unit (Aborted x) calm = record { long = refl; same = λ k h. refl }
 by-answer unit (Value w n) calm = record { long = refl; same = λ k h. refl }
 by-answer unit (Written slot word) calm =
     let far = calm slot word refl in
-    record { long = length-set unit slot word; same = λ k h. getD-set-other unit slot k word 0 (λ e. omega arith) }
+    record {
+      long = size-stored unit slot word;
+      same = λ k h. front-forgotten (set unit slot word) k h ∙ getD-set-other unit slot k word 0 (λ e. omega arith);
+    }
 
 -- words that stand at the front of a unit, one by one
 pub front-is : (unit : List ℕ) {words : List ℕ} → take configured unit ≡ words → (k : ℕ) → k < configured → getD unit k 0 ≡ getD words k 0
@@ -56,7 +60,7 @@ kept (frame f room) unit long calm = by-answer unit (answer unit f room) calm
 kept (tick samples) unit long calm = record { long = Tick.length-kept samples unit; same = kept-by-tick samples unit }
 kept (load image) unit long calm =
     record {
-      long = kept-by-load image unit (omega (arith, long, sizes)) (reading image) configured (omega arith) .size;
+      long = size-by-load image unit (omega (arith, long, sizes)) (reading image);
       same = λ k h. front-is (loaded image unit (reading image)) calm k h ∙ getD-take configured unit k 0 h;
     }
 
@@ -76,7 +80,7 @@ module _ (current wanted : List ℕ) where
     pub inside : slot < configured
     pub is : frame-at wanted slot ≡ f
     pub answers : (room : ℕ) → 8 ≤ room → answer unit f room ≡ Written slot (getD (configuration-in wanted) slot 0)
-    pub then : Going rest (set unit slot (getD (configuration-in wanted) slot 0))
+    pub then : Going rest (unticked (set unit slot (getD (configuration-in wanted) slot 0)))
 
   -- all of them at first, and none at the end
 
@@ -117,7 +121,7 @@ module _ (current wanted : List ℕ) where
               is = same;
               answers = λ room h.
                   ap (λ (x : List ℕ). answer unit x room) (sym same) ∙ answered wanted (good second) slot inside unit room h ∙ ap (stored slot word) (Sending.accepted (first .valid) (second .valid) u there);
-              then = record { slots = slots; left = Sending.step u there; as-frames = cc; long = length-set unit slot word ∙ g .long };
+              then = record { slots = slots; left = Sending.as-well (Sending.step u there) (front-forgotten (set unit slot word)); as-frames = cc; long = size-stored unit slot word ∙ g .long };
             }
 
     pub further : {sent rest : List (List ℕ)} {unit unit′ : List ℕ} → Sent sent unit unit′ → Going (sent ++ rest) unit → Going rest unit′

@@ -5,6 +5,8 @@ use Rattle.dictionary.specs.OneEach.{Names-apart, Slot-named, Slots-apart}
 use Rattle.output.specs.Lasting.{Lasts, Moves-on, On-time, At-once}
 use Rattle.spool.specs.Coils.{Only-after-0}
 use Rattle.table.specs.Curves.{Never-dips, Stays-between}
+use Rattle.why.specs.Answer as why
+use Rattle.promises.specs.Asking.{Told-as-it-was, Refused-exactly, One-answer-why}
 use Rattle.promises.specs.Bench.{On-the-bench}
 use Rattle.promises.specs.Curves.{Tables-never-dip, Tables-stay-between}
 use Rattle.controller.specs.Listed.{Enter-in-front}
@@ -160,6 +162,13 @@ pub record Asked-for : Type 0 where
   pub starts-again : Starts-again
   -- (iii) "The largest product is 65,535 x 65,535 = 4,294,836,225, and half the divisor still fits on top in 32 bits unsigned."
   pub fits-32-bits : Fits-32-bits
+  -- (v) "Proved: the rule named is the one that gave the command, no earlier rule applied, and each step of the trail really was in error and read the next."
+  pub told-as-it-was : Told-as-it-was
+  -- "Refusals, named: output number outside 1..4; then a state with no tick since its start or last accepted write", and no other
+  pub refused-exactly : Refused-exactly
+  pub one-answer-why : One-answer-why
+  -- VALVE_TRAIL bytes are enough for all that is told
+  pub answers-fit : why.Always-fits
   -- (xii) "For any table whose used Y values don't fall from point to point, a larger x never gives a smaller output, for lines and jumps and equal X alike":
   -- of the curve, and of every table at work
   pub never-dips : Never-dips

@@ -6,6 +6,7 @@ use mathlib.Core.List.{List, [], _++_}
 use lib.ListN.{length, getD, take, drop}
 use Rattle.octets.specs.Little.{bytes, Bytes}
 use Rattle.dictionary.specs.Names.{configured, index-at, sub-at}
+use Rattle.dictionary.specs.Unit.{unticked}
 use Rattle.roles.specs.Values.{at-start}
 use Rattle.entries.specs.Valid.{Valid}
 use Rattle.records.specs.Layout.{listed, size, entry, image-of}
@@ -23,7 +24,7 @@ abbrev pub Saved-reads-back : Type 0
 Saved-reads-back =
     (events : List Event) (buffer buffer′ other other′ : List ℕ) (w r : Outcome) → Made-of-bytes events
     → Written (run events at-start) buffer buffer′ w → w ≡ Good → Loaded (take image-size buffer′) other other′ r
-    → (r ≡ Good) × (other′ ≡ take configured (run events at-start) ++ drop configured other)
+    → (r ≡ Good) × (other′ ≡ take configured (run events at-start) ++ drop configured (unticked other))
 
 -- "one that is read and written again has the same bytes"
 abbrev pub Same-bytes-again : Type 0

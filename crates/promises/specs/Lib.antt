@@ -1,3 +1,4 @@
+pub mod Asking
 pub mod Bench
 pub mod ByWay
 pub mod Curves

@@ -6,7 +6,7 @@ use mathlib.Core.List.{List, _∷_, _++_}
 use lib.ListN.{length, getD, take, drop, replicate}
 use Rattle.octets.specs.Little.{bytes, Bytes}
 use Rattle.dictionary.specs.Names.{configured, words, find}
-use Rattle.dictionary.specs.Unit.{unit-size}
+use Rattle.dictionary.specs.Unit.{ticked-at, unit-size}
 use Rattle.dictionary.specs.declared.types.Found.the-variants.{At}
 use Rattle.entries.specs.Valid.{Valid}
 use Rattle.roles.specs.Values.{at-start}
@@ -31,12 +31,13 @@ abbrev pub First-eight-only : Type 0
 First-eight-only =
     (unit frame reply unit′ reply′ : List ℕ) (r : Answer) → Served unit frame reply unit′ reply′ r → (length reply′ ≡ length reply) × (drop 8 reply′ ≡ drop 8 reply)
 
--- "An accepted write changes that one entry": no other name's word, and nothing that ticks remember behind the words
+-- "An accepted write changes that one entry": no other name's word, and nothing that ticks remember behind the words but for the mark that tells of a tick
 pub record Changes-only (unit frame : List ℕ) (slot word : ℕ) : Type 0 where
   pub own : find (index-in frame) (sub-in frame) ≡ At slot
   pub others : (index sub other : ℕ) → find index sub ≡ At other → ((index ≡ index-in frame) × (sub ≡ sub-in frame) → ⊥)
       → getD (after unit (Written slot word)) other 0 ≡ getD unit other 0
-  pub remembered : (k : ℕ) → words ≤ k → getD (after unit (Written slot word)) k 0 ≡ getD unit k 0
+  pub remembered : (k : ℕ) → words ≤ k → (k ≡ ticked-at → ⊥) → getD (after unit (Written slot word)) k 0 ≡ getD unit k 0
+  pub forgets : length unit ≡ unit-size → getD (after unit (Written slot word)) ticked-at 0 ≡ 0
 
 abbrev pub That-one-entry : Type 0
 That-one-entry = (unit frame : List ℕ) (room slot word : ℕ) → answer unit frame room ≡ Written slot word → Changes-only unit frame slot word

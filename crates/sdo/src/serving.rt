@@ -2,12 +2,13 @@
 ghost use mathlib.Core.Path.{_≡_};
 ghost use mathlib.Core.List.{_++_};
 ghost use Prim.Native.Nat.{_≤_};
-ghost use lib.ListN.{length, drop};
+ghost use lib.ListN.{length, set, drop};
 ghost use Rattle.sdo.specs.Frames.{code, read-command, cut, reply};
 ghost use Rattle.sdo.specs.Served.{Served, after, filled};
 use crate::deciding::decide;
 use crate::types::Abort;
 use crate::types::Answer;
+use dictionary::slots::TICKED;
 use dictionary::slots::Unit;
 
 fn code_of(abort: Abort) -> u32
@@ -45,15 +46,22 @@ fn respond(frame: &[u8], out: &mut [u8], head: u8, value: u32)
 }
 
 // A word in its slot.
-fn keep(words: &mut [u32], answer: Answer)
-    ensures { λ _. ⌜ now (words .exit) ≡ after (now (words .entry)) answer ⌝ }
+fn put(words: &mut [u32], slot: usize, word: u32)
+    ensures { λ _. ⌜ now (words .exit) ≡ set (now (words .entry)) slot word ⌝ }
+{
+    if slot < words.len() {
+        words[slot] = word;
+    }
+}
+
+fn keep(unit: &mut Unit, answer: Answer)
+    ensures { λ _. ⌜ now (unit .exit) ≡ after (now (unit .entry)) answer ⌝ }
 {
     let Answer::Written(slot, word) = answer else {
         return;
     };
-    if slot < words.len() {
-        words[slot] = word;
-    }
+    put(unit, slot, word);
+    unit[TICKED] = 0;
 }
 
 // The reply that shows a value of so many bytes.

@@ -1,0 +1,11 @@
+pub mod Answers
+pub mod Bytes
+pub mod Causes
+pub mod Explaining
+pub mod Fits
+pub mod Leads
+pub mod Nexts
+pub mod Rules
+pub mod Sights
+pub mod Views
+pub mod Walks

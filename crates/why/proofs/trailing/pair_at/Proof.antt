@@ -1,0 +1,17 @@
+-- Both words.
+-- Assumes nothing.
+use borrow.Author.Needs.{needs}
+use Rattle.why.proofs.trailing.pair_at.Statement.{statement}
+use Rattle.why.proofs.trailing.pair_at.Tie as tie
+
+byte-at-requires : tie.Need-byte-at-requires
+byte-at-requires c κs = search needs
+
+byte-at-requires-2 : tie.Need-byte-at-requires-2
+byte-at-requires-2 c κs = search needs
+
+returns : tie.Need-returns
+returns c = rw (c .before .byte-at .ensures, c .byte-at2 .ensures)
+
+pub pair-at-spec : {M : Type 1} → statement M
+pair-at-spec = tie.close (tie.spec byte-at-requires byte-at-requires-2 returns)

@@ -1,0 +1,4 @@
+pub mod Answer
+pub mod Explains
+pub mod Seen
+pub mod Trail
