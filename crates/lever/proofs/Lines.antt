@@ -2,8 +2,7 @@
 -- Assumes nothing.
 use Prim.Native.Nat.{ℕ, _<_, _≤_}
 use mathlib.Core.List.{List, [], _∷_}
-use mathlib.Core.Path.{_≡_, refl, sym, ap, _∙_, subst}
-use native.Mathlib.Omega.{arith}
+use mathlib.Core.Path.{_≡_, refl, sym, subst}
 use borrow.Author.Tests.{le-leb, lt-leb}
 use lib.IntN.{ℤ, pos}
 use lib.ListN.{length, getD}

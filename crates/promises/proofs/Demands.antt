@@ -12,7 +12,6 @@ use Rattle.promises.proofs.Images as Images
 use Rattle.promises.proofs.ImageRefusals as ImageRefusals
 use Rattle.promises.proofs.Restoring as Restoring
 use Rattle.promises.proofs.Running as Running
-use Rattle.promises.proofs.NotBelow as NotBelow
 use Rattle.promises.proofs.Spool as Spool
 use Rattle.spool.proofs.Coils as Coils
 use Rattle.promises.proofs.Ticking as Ticking
@@ -113,7 +112,7 @@ asked-for =
       spool-sent-on = Spool.sent-on;
       spool-core-as-before = Spool.core-as-before;
       spool-only-ticks-send = Spool.only-ticks-send;
-      commands-not-below-0 = NotBelow.commands-not-below-0;
+      commands-not-below-0 = Spool.commands-not-below-0;
       spool-change-over = Spool.change-over;
       spool-waits = Spool.waits-for-the-other;
       spool-goes-next = Spool.goes-next;

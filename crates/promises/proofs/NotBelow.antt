@@ -3,11 +3,11 @@
 use Prim.Native.Nat.{ℕ, zero, suc, _+_, _<_, _≤_}
 use mathlib.Core.Bool.{Bool, true, false}
 use mathlib.Core.List.{List, [], _∷_}
-use mathlib.Core.Path.{_≡_, refl, sym, ap, _∙_, subst}
+use mathlib.Core.Path.{_≡_, refl}
 use native.Mathlib.Omega.{arith}
 use lib.Dec.{eqb}
 use lib.IntN.{ℤ, pos}
-use lib.ListN.{getD, set}
+use lib.ListN.{getD}
 use lib.Seq.{getD-set-other}
 use lib.Signed.{_≤ℤ_, ≤ℤ-refl}
 use Rattle.numbers.specs.Choice.{first}
@@ -19,13 +19,11 @@ use Rattle.numbers.proofs.Orders.{not-below-is-le}
 use Rattle.dictionary.specs.Names.{slot-of, writable, configured}
 use Rattle.dictionary.specs.Rows.{i16-between}
 use Rattle.dictionary.specs.declared.types.Range.{Range}
-use Rattle.dictionary.specs.declared.types.Kind.the-variants.{Integer16}
 use Rattle.dictionary.proofs.Tabulate.{tabulate, agree}
 use Rattle.dictionary.proofs.naming.NameLaws.{counted}
 use Rattle.roles.specs.Values.{range-of, starts, at-start}
 use Rattle.entries.specs.Judge.{number-of, finite, within, in-range}
 use Rattle.entries.specs.Valid.{Valid}
-use Rattle.entries.specs.declared.types.Verdict.{Verdict}
 use Rattle.entries.specs.declared.types.Verdict.the-variants.{Good, Above, Below}
 use Rattle.sdo.specs.Answers.{answer}
 use Rattle.sdo.specs.declared.types.Answer.{Answer}
@@ -40,11 +38,10 @@ use Rattle.output.specs.Commanded.{Names}
 use Rattle.output.specs.Outputs.{settings}
 use Rattle.output.specs.declared.Settings.{Settings}
 use Rattle.controller.specs.Tick.{ticked}
-use Rattle.controller.specs.Commands.{ruleFor, Commanded}
+use Rattle.controller.specs.Commands.{ruleFor}
 use Rattle.promises.specs.Running.{Event, frame, tick, load, happens, run, Made-of-bytes, Sound}
-use Rattle.promises.specs.Spool.{Commands-not-below-0}
 use Rattle.promises.proofs.Accepted as Accepted
-use Rattle.promises.proofs.Running.{sound-on, sizes, kept-by-load, size-at-start, always-sound}
+use Rattle.promises.proofs.Running.{sound-on, sizes, kept-by-load, always-sound}
 use Rattle.promises.proofs.Ticking.{each-tick}
 
 abbrev Not-below : List ℕ → Type 0
@@ -170,6 +167,3 @@ commands-at-start = refl
 pub fit-at-start : Fit at-start
 unfolding run
 fit-at-start = (always-sound [] tt, λ k h. rw (agree 4 (λ k. whole at-start 0x7330 (k + 1)) (λ k. pos 0) (pos 0) commands-at-start k h) (≤ℤ-refl (pos 0)))
-
-pub commands-not-below-0 : Commands-not-below-0
-commands-not-below-0 events b = fit-on events at-start b fit-at-start .1

@@ -19,8 +19,8 @@ use Rattle.firmware.specs.Published.{commands}
 use Rattle.spool.specs.Interlock.{coil-1, coil-2, sent-at-start, waits, loses, sent-1, sent-2, interlocked}
 use Rattle.spool.specs.Coils.{Coil, one, two, other, of, Above-0, At-0, Loses, Not-both}
 use Rattle.spool.proofs.Coils.{above-not-0, each-obeys, never-both}
-use Rattle.promises.specs.Running.{Event, frame, tick, load, happens, run, Did, Made-of-bytes}
-use Rattle.promises.specs.Spool.{Product, started, occurs, works, Occurred, Worked, Only-these, Core-as-before, Only-ticks-send, Never-both-above, Sent-on, Since-start, Both-at-0, Change-over, Asks-on, Waits-for-the-other, Goes-next}
+use Rattle.promises.specs.Running.{Event, frame, tick, load, happens, run, Made-of-bytes}
+use Rattle.promises.specs.Spool.{Product, started, occurs, works, Occurred, Worked, Only-these, Core-as-before, Only-ticks-send, Never-both-above, Sent-on, Since-start, Commands-not-below-0, Both-at-0, Change-over, Asks-on, Waits-for-the-other, Goes-next}
 use Rattle.promises.proofs.Running.{did}
 use Rattle.promises.proofs.NotBelow.{Fit, fit-after, fit-on, fit-at-start}
 
@@ -120,6 +120,9 @@ module _ (c s : List ℤ) (least : (coil : Coil) → pos 0 ≤ℤ of coil c) whe
   unfolding interlocked coil-1 coil-2 sent-at-start
   both-at-0 one x y = rw (x, y)
   both-at-0 two x y = rw (x, y)
+
+pub commands-not-below-0 : Commands-not-below-0
+commands-not-below-0 events b = fit-on events at-start b fit-at-start .1
 
 -- ---- who waits
 

@@ -1,7 +1,6 @@
 -- What is promised of the twin-coil spool product, document 02 (iv): over any list of frames, ticks and images that are loaded, whatever its coils were sent.
 -- Assumes nothing.
 use Prim.Native.Nat.{ℕ, _+_, _<_}
-use mathlib.Core.Logic.{_⊎_}
 use mathlib.Core.Path.{_≡_}
 use mathlib.Core.List.{List, [], _∷_, _++_}
 use lib.IntN.{ℤ, pos}

@@ -6,9 +6,8 @@ use mathlib.Core.Logic.{_⊎_, inl, inr}
 use mathlib.Core.Path.{_≡_, refl, sym, ap, _∙_, subst}
 use borrow.Author.Tests.{eqb-true}
 use lib.IntN.{ℤ, pos, negsuc}
-use lib.Signed.{_<ℤ_, <ℤ-irrefl, clashℤ, ≤ℤ-refl}
+use lib.Signed.{<ℤ-irrefl}
 use Rattle.numbers.specs.Choice.{first}
-use Rattle.numbers.specs.Order.{below}
 use Rattle.numbers.proofs.Orders.{lt-is-below, below-is-lt}
 use Rattle.spool.specs.Interlock.{coil-1, coil-2, asks, rested, waits, loses, sent-1, sent-2, interlocked}
 use Rattle.spool.specs.Coils.{Coil, one, two, other, of, Above-0, At-0, Loses, Holds, Obeys, Each-obeys, Only-after-0, Never-both}

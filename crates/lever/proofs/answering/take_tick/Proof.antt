@@ -1,9 +1,8 @@
 -- What the tick leaves is shown.
 -- Assumes nothing.
 use borrow.Author.Needs.{needs}
-use mathlib.Core.Path.{_∙_, ap}
 use Rattle.printer.proofs.Replies.{prints}
-use Rattle.lever.specs.Told.{sentLine, sampled}
+use Rattle.lever.specs.Told.{sampled}
 use Rattle.lever.proofs.answering.take_tick.Statement.{statement}
 use Rattle.lever.proofs.answering.take_tick.Tie as tie
 
