@@ -55,6 +55,7 @@ BY_HAND = (
     ("a block that feeds itself", [*NO_DELAY, *pair(0x2340, 1, 3, 2), *pair(0x3020, 0, 2, 2), tick(OUT), *pair(0x3020, 0, 3, 2), tick(), 1], 5, "03 02 03 00000000 02 0302 0302 03"),
     ("table B selected", [*NO_DELAY, *pair(0x2340, 1, 4, 2), write(0x4000, 2, 1), write(0x4202, 1, 2), *pair(0x3050, 0, 2, 2), tick(OUT), 1], 5, "04 02 03 00000000 03 0402 0305 0202 01"),
     ("a frame answered 60h", [tick(), write(0x2500, 12, 0, 2), 1], -2, ""),
+    ("the error list cleared, though it was empty", [tick(), write(0x1003, 0, 0), 1], -2, ""),
     ("a read and a refused write", [tick(), sessions.frame_line(0x40, 0x1001, 0), write(0x4000, 1, 2), 1], 6, "00 00 00 00000000"),
     ("a tick after the write", [tick(), write(0x2500, 12, 0, 2), tick(), 1], 6, "00 00 00 00000000"),
 )
