@@ -37,10 +37,12 @@ void valve_start(uint32_t *unit);
 /* Answers one SDO request of frame_length bytes (DS-301, expedited transfer): a read (40h), a write that tells its size (23h, 27h, 2Bh,
  * 2Fh), or one that does not (22h), of which as many bytes count as the entry has. Returns the reply's length: 8 where the first 8 bytes of
  * reply now hold the answer, which may be an abort, or 0 where there is no answer and reply is as it was: a frame that is not 8 long,
- * room for fewer than 8 bytes, or the client's own abort (80h). Only an accepted write changes the unit, and that in one entry. */
+ * room for fewer than 8 bytes, or the client's own abort (80h). Only an accepted write changes the unit, and that in one entry; a 0
+ * written to 1003h:0 so clears the error list. */
 int32_t valve_serve(uint32_t *unit, const uint8_t *frame, uint64_t frame_length, uint8_t *reply, uint64_t reply_length);
 
-/* One tick of a millisecond on four samples, those of inputs 1 to 4. */
+/* One tick of a millisecond on four samples, those of inputs 1 to 4. An input that is flagged and was not on the last tick is entered in the
+ * error list: 1003h:0 reads how many are kept, 8 at most, 1003h:1 the newest, FF00h in the low half and the input's number in the high half. */
 void valve_tick(uint32_t *unit, const int16_t *samples);
 
 /* The four commands in mA, those of outputs 1 to 4, as the last tick left them: what a read of 7330h:1-4 answers. */
