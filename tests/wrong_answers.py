@@ -132,6 +132,13 @@ def facts(log):
             yield verdict[1]
 
 
+def resting(log):
+    """The functions whose proofs name what was not admitted: they rest on a law that is refused."""
+    for error in filter(None, map(ERROR.match, log)):
+        if error[1].endswith("/Proof") and not error[2].endswith("-spec") and "was not admitted" in error[3]:
+            yield re.sub(r".*/proofs/", "", error[1]).removesuffix("/Proof").replace("/", "::")
+
+
 def faults(crate, wrongs, log, alone=False):
     """What is not as it has to be, of an edit's wrong answers and the log of its check."""
     broken, owners = {*facts(log)}, [wrong.whose for wrong in wrongs]
@@ -145,7 +152,7 @@ def faults(crate, wrongs, log, alone=False):
         if not any(stand(wrong.changes, file, text) for file, text in own):
             said.append("%s: changes more than %s" % (wrong.name, wrong.whose))
     verdicts = [verdict.groups() for verdict in map(VERDICT.match, log) if verdict]
-    apart = {name for name, verdict in verdicts if verdict != "proved" and "; it calls" not in verdict} | broken
+    apart = {name for name, verdict in verdicts if verdict != "proved" and "; it calls" not in verdict} - {*resting(log)} | broken
     return said + ["%s is refused too" % name for name in sorted(apart - {*owners})]
 
 
