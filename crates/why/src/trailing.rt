@@ -39,7 +39,7 @@ fn math_pair(unit: &Unit, k: usize, i: usize) -> Pair
     requires { ⌜ (k < 4) × (i < 4) ⌝ }
     ensures { λ r. ⌜ r ≡ spec.mathPair (now (unit .entry)) (k + 1) (i + 1) ⌝ }
 {
-    let at = MATH_ENTRIES * k + i;
+    let at = (MATH_ENTRIES as u32 * k as u32) as usize + i;
     pair_at(unit, OPERAND_SOURCE + at, OPERAND_NUMBER + at)
 }
 
@@ -48,7 +48,7 @@ fn table_pair(unit: &Unit, k: usize) -> Pair
     requires { ⌜ k < 6 ⌝ }
     ensures { λ r. ⌜ r ≡ spec.tablePair (now (unit .entry)) (k + 1) ⌝ }
 {
-    let at = TABLE_ENTRIES * k;
+    let at = (TABLE_ENTRIES as u32 * k as u32) as usize;
     pair_at(unit, TABLE_SOURCE + at, TABLE_NUMBER + at)
 }
 

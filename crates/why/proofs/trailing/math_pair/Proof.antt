@@ -9,8 +9,17 @@ use borrow.Author.Needs.{needs}
 use Rattle.why.proofs.trailing.math_pair.Statement.{statement}
 use Rattle.why.proofs.trailing.math_pair.Tie as tie
 
+cast-at : tie.Need-cast-at
+cast-at c = search needs
+
+cast-at-2 : tie.Need-cast-at-2
+cast-at-2 c = search needs
+
 mul-at : tie.Need-mul-at
 mul-at c = search needs
+
+cast-at-3 : tie.Need-cast-at-3
+cast-at-3 c = search needs
 
 add-at : tie.Need-add-at
 add-at c = search needs
@@ -31,4 +40,4 @@ returns c = let a = c .before .args in
 
 pub math-pair-spec : {M : Type 1} → statement M
 math-pair-spec =
-    tie.close (tie.spec mul-at add-at add-pair-at add-pair-at-2 pair-at-requires returns)
+    tie.close (tie.spec cast-at cast-at-2 mul-at cast-at-3 add-at add-pair-at add-pair-at-2 pair-at-requires returns)
