@@ -3,8 +3,9 @@
 
 usage: python3 tools/respell.py          writes crates/ anew, in place; says which names fall together
        python3 tools/respell.py --list   old and new, a line each
+       python3 tools/respell.py --apart  the last step alone, of names that the kit's script let fall together
 
-It was run once, behind the kit's own script, and changes no name that the kit gives and no text but comments in back quotes. Functions of src/,
+It was run once, behind the kit's own script, before any proof was written anew (its last step a little later, with --apart), and changes no name that the kit gives and no text but comments in back quotes. Functions of src/,
 names for C, strings, inputs and outputs keep their names.
 """
 import glob
@@ -36,6 +37,14 @@ APART = {
     "state-line": "state_line_lem",
     "table-turn": "table_turn_lem",
 }
+
+
+# Definitions that the kit's script gave the name of another room's: the room, its file, that name, and the one that it has here.
+TOGETHER = [
+    ("signals", "Words", "number_of", "number_of_signal"),
+    ("printer", "Reading", "bytes_of", "bytes_of_digits"),
+    ("printer", "Reading", "size_of", "size_of_digits"),
+]
 
 
 def spelled(name):
@@ -81,6 +90,9 @@ OWN = None
 
 def main(argv):
     global OWN
+    if argv == ["--apart"]:
+        part()
+        return 0
     crates = sorted(p.split("/")[1] for p in glob.glob("crates/*/src"))
     OWN = re.compile(r"Rattle\.(?:%s)\." % "|".join(crates))
     texts = {p: open(p, encoding="utf-8").read() for p in sources()}
@@ -140,7 +152,26 @@ def main(argv):
             else:
                 lines.append(line)
         write(path, text, "\n".join(lines))
+    part()
     return 0
+
+
+def part():
+    for path in [*sources(), *sorted(glob.glob("crates/*/src/**/*.rt", recursive=True))]:
+        text = open(path, encoding="utf-8").read()
+        write(path, text, parted(path, text))
+
+
+def parted(path, text):
+    """The text with the names of TOGETHER told apart, where it gives one of them or has it from its room."""
+    for room, file, old, new in TOGETHER:
+        has = re.search(r"use Rattle\.%s\.specs\.%s\.\{[^}]*\b%s\b" % (room, file, old), text)
+        if not has and path != f"crates/{room}/specs/{file}.antt":
+            continue
+        word = re.compile(r"(?<![\w.'-])%s(?![\w.'(-])" % old)
+        code = path.endswith(".rt")
+        text = "\n".join(word.sub(new, line) if not code or re.match(r"\s*(ghost|requires|ensures)\b", line) else line for line in text.split("\n"))
+    return text
 
 
 def write(path, old, new):

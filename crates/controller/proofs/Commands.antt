@@ -22,7 +22,8 @@ use Rattle.output.specs.Output.{driven}
 use Rattle.output.specs.Commanded.{Within, Names, SomeRule, Rules1To6, Rule7}
 use Rattle.output.specs.declared.Motion.{Motion}
 use Rattle.output.proofs.MotionLaws.{Left, Settled, driven_left, ramp_word, motion_back}
-use Rattle.output.proofs.OutputLaws.{some_rule, rules_1_to_6, rule_7}
+use Rattle.output.proofs.OutputLaws.{some_rule, rules_1_to_6}
+use Rattle.output.proofs.Rule7.{rule_7}
 use Rattle.unit.specs.Entry.{entry, whole, byte, time}
 use Rattle.unit.proofs.Slots.{stretch, has, array}
 use Rattle.unit.specs.Sources.{sourced}

@@ -16,7 +16,7 @@ use Rattle.signals.specs.declared.signal.Signal.{Signal}
 use Rattle.signals.specs.declared.signal.Signal.TheVariants.{Error, Absent}
 use Rattle.signals.proofs.keeping.WordLaws as two-words
 use Rattle.unit.specs.Entry.{entry, byte, switched}
-use Rattle.unit.specs.Held.{maths, tables, logics, held}
+use Rattle.unit.specs.Held.{maths, logics, held}
 use Rattle.unit.proofs.HeldLaws.{laid_down}
 use Rattle.unit.proofs.Slots.{has, array}
 use Rattle.unit.proofs.sources.SourceLaws.{names_nothing}

@@ -17,7 +17,7 @@ use Rattle.unit.specs.Held.{place}
 use Rattle.controller.specs.Register.{registered}
 use Rattle.controller.specs.Tick.{recall, recalled, marked, ticked}
 use Rattle.controller.specs.Turns.{at_turn}
-use Rattle.controller.proofs.Kept.{Kept, stands, fixed_last, kept_last, register_first, same, all_keep, set_keeps, register_keeps, own_turn}
+use Rattle.controller.proofs.Kept.{Kept, stands, fixed_last, kept_last, register_first, same, all_keep, set_keeps, own_turn}
 use Rattle.controller.proofs.Turns.{Spared, through, to_last, all_turns}
 
 -- word k of the signals kept

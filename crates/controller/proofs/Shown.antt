@@ -1,6 +1,6 @@
 -- What the output entries read after a tick.
 -- Assumes nothing.
-use Prim.Native.Nat.{ℕ, ◌+◌, ◌-◌, ◌<◌}
+use Prim.Native.Nat.{ℕ, ◌+◌, ◌<◌}
 use mathlib.Core.Bool.{Bool, true, false}
 use mathlib.Core.List.{List}
 use mathlib.Core.Path.{◌≡◌, refl, sym, ap, ◌∙◌}
@@ -13,7 +13,7 @@ use Rattle.numbers.specs.Signed.{pattern16}
 use Rattle.signals.specs.Signal.{as_real}
 use Rattle.signals.specs.Signal as signals
 use Rattle.signals.specs.declared.signal.Signal.{Signal}
-use Rattle.signals.specs.Words.{number_of}
+use Rattle.signals.specs.Words.{number_of_signal}
 use Rattle.dictionary.specs.Names.{slot_of}
 use Rattle.dictionary.specs.Unit.{signals_at, runs_at, flags_at, unit_size}
 use Rattle.input.specs.declared.Memory.{Memory}
@@ -95,14 +95,14 @@ module _ (samples : List ℤ) (unit : List ℕ) (size : length unit ≡ unit_siz
       ∙ ap pattern16 (told _ _)
       ∙ ap (λ (s : Signal). pattern16 (signals.whole s)) (sym (input_made samples unit size k h))
 
-  pub math_shown : k < 4 → Rising unit (k + 1) → entry (ticked samples unit) 0x4530 (k + 1) ≡ number_of (as_real (held (ticked samples unit) maths (k + 1)))
+  pub math_shown : k < 4 → Rising unit (k + 1) → entry (ticked samples unit) 0x4530 (k + 1) ≡ number_of_signal (as_real (held (ticked samples unit) maths (k + 1)))
   unfolding entry math_turn publish
   math_shown h r =
       let p = calculated k h in
       by_turn p samples unit (omega arith) (math_turn_lem samples k h)
       ∙ (lay_keeps _ maths (k + 1) _ (clear p maths (k + 1))).word
       ∙ there p (at_turn samples unit (maths + k)) _ (sized samples unit size (maths + k) (omega arith))
-      ∙ ap (λ (s : Signal). number_of (as_real s)) (sym (math_made samples unit size k h r))
+      ∙ ap (λ (s : Signal). number_of_signal (as_real s)) (sym (math_made samples unit size k h r))
 
   pub table_shown : k < 6 → entry (ticked samples unit) (of_table 0x3007 (k + 1)) 0 ≡ pattern16 (signals.whole (held (ticked samples unit) tables (k + 1)))
   unfolding entry table_turn publish

@@ -1,6 +1,6 @@
 -- The names in order, their slots, and what an index with a sub-index names.
 -- Assumes nothing.
-use Rattle.std.specs.Prelude.{ℕ, zero, suc, ◌+◌, ◌-◌, ◌*◌, max, Bool, true, false, ◌&&◌, eqb, ltb, leb, length, get_or}
+use Rattle.std.specs.Prelude.{ℕ, zero, suc, ◌+◌, ◌-◌, max, Bool, ◌&&◌, eqb, ltb, leb, length, get_or}
 use mathlib.Core.List.{List, [], ◌∷◌, ◌++◌, map, flat_map}
 use Rattle.numbers.specs.Choice.{first}
 use Rattle.dictionary.specs.Rows.{Row, Value, width, configuration, tables, logics, conditions, maths, received, cleared, read_only, condition, axis_or_response, operator}

@@ -5,7 +5,7 @@ ghost use Rattle.dictionary.specs.Objects.{Rows};
 
 use crate::slots::*;
 
-#[derive(Drop)]
+#[derive(Clone, Copy)]
 pub enum Object {
     Unknown,
     // a VAR's slot

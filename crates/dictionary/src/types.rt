@@ -1,6 +1,6 @@
 // What the table of "Names" says of an entry.
 
-#[derive(Drop)]
+#[derive(Clone, Copy)]
 pub enum Kind {
     Unsigned8,
     Integer16,
@@ -10,7 +10,7 @@ pub enum Kind {
 }
 
 // A type with its least and greatest number; a REAL32 has neither, it is finite or not, and an UNSIGNED32 can only be read.
-#[derive(Drop)]
+#[derive(Clone, Copy)]
 pub struct Range {
     pub kind: Kind,
     pub low: i32,
@@ -18,7 +18,7 @@ pub struct Range {
 }
 
 // What an index with a sub-index names.
-#[derive(Drop)]
+#[derive(Clone, Copy)]
 pub enum Found {
     NoIndex,
     NoSub,

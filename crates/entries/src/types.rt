@@ -1,5 +1,5 @@
 // What may be said of a value that is offered to an entry.
-#[derive(Drop)]
+#[derive(Clone, Copy)]
 pub enum Verdict {
     Good,
     NotFinite,

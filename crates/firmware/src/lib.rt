@@ -1,5 +1,7 @@
 // The unit for a firmware written in C: start, serve a frame, tick, what a tick commands and why; save, check and load an image. Each is the crate's below;
-// valve.h tells a C programmer all of it.
+// valve.h tells a C programmer all of it, and `firmware_c` is what C links.
+#![tactic(auto)]
+
 ghost use Rattle.std.specs.Prelude.{◌≡◌};
 ghost use Rattle.controller.specs.Tick.{ticked};
 ghost use Rattle.roles.specs.Values.{at_start};
@@ -22,16 +24,14 @@ use unit::words::{byte_at, whole_at};
 use why::asking::why;
 use why::types::{TRAIL, Why};
 
-#[unsafe(no_mangle)]
-pub extern "C" fn valve_start(unit: &mut Unit)
+pub fn valve_start(unit: &mut Unit)
     ensures { unit.new ≡ at_start }
 {
     start_in(unit);
 }
 
 // The length of the reply: 8, or 0 where there is none.
-#[unsafe(no_mangle)]
-pub extern "C" fn valve_serve(unit: &mut Unit, frame: &[u8], reply: &mut [u8]) -> i32
+pub fn valve_serve(unit: &mut Unit, frame: &[u8], reply: &mut [u8]) -> i32
     ensures { Replied unit.old frame.now reply.old unit.new reply.new result }
 {
     let answer = serve(unit, frame, reply);
@@ -43,15 +43,13 @@ pub extern "C" fn valve_serve(unit: &mut Unit, frame: &[u8], reply: &mut [u8]) -
     }
 }
 
-#[unsafe(no_mangle)]
-pub extern "C" fn valve_tick(unit: &mut Unit, samples: &[i16; 4])
+pub fn valve_tick(unit: &mut Unit, samples: &[i16; 4])
     ensures { unit.new ≡ ticked samples.now unit.old }
 {
     tick(unit, *samples);
 }
 
-#[unsafe(no_mangle)]
-pub extern "C" fn valve_commands(unit: &Unit, commands: &mut [i16; 4])
+pub fn valve_commands(unit: &Unit, commands: &mut [i16; 4])
     ensures { commands.new ≡ published.commands unit.now }
 {
     let one = whole_at(unit, COMMAND);
@@ -61,37 +59,32 @@ pub extern "C" fn valve_commands(unit: &Unit, commands: &mut [i16; 4])
     *commands = [one, two, three, four];
 }
 
-#[unsafe(no_mangle)]
-pub extern "C" fn valve_error_register(unit: &Unit) -> u8
+pub fn valve_error_register(unit: &Unit) -> u8
     ensures { result ≡ published.register unit.now }
 {
     byte_at(unit, ERROR_REGISTER)
 }
 
-#[unsafe(no_mangle)]
-pub extern "C" fn valve_save(unit: &Unit, image: &mut [u8]) -> i32
+pub fn valve_save(unit: &Unit, image: &mut [u8]) -> i32
     ensures { ToldSaved unit.now image.old image.new result }
 {
     number_of(write(unit, image))
 }
 
-#[unsafe(no_mangle)]
-pub extern "C" fn valve_check(image: &[u8]) -> i32
+pub fn valve_check(image: &[u8]) -> i32
     ensures { result ≡ told (reading image.now) }
 {
     number_of(check(image))
 }
 
-#[unsafe(no_mangle)]
-pub extern "C" fn valve_load(unit: &mut Unit, image: &[u8]) -> i32
+pub fn valve_load(unit: &mut Unit, image: &[u8]) -> i32
     ensures { ToldLoaded unit.old image.now unit.new result }
 {
     number_of(read(image, unit))
 }
 
 // The rule, 1 to 7, or why none is told.
-#[unsafe(no_mangle)]
-pub extern "C" fn valve_why(unit: &Unit, output: u8, trail: &mut [u8; TRAIL]) -> i32
+pub fn valve_why(unit: &Unit, output: u8, trail: &mut [u8; TRAIL]) -> i32
     ensures { ToldWhy unit.now output trail.old trail.new result }
 {
     let answer = why(unit, output, trail);

@@ -19,7 +19,7 @@ use Rattle.lists.specs.Changes.{list_of}
 use Rattle.gateway.proofs.LengthLaws.{list_short}
 use Rattle.lists.specs.Listing.{made, left_by, Listing}
 use Rattle.lists.specs.declared.types.Made.{Made}
-use Rattle.lists.specs.declared.types.Made.TheVariants.{Done, Current, Wanted, NoRoom}
+use Rattle.lists.specs.declared.types.Made.TheVariants.{Done, Current, NoRoom}
 use Rattle.gateway.specs.Restored.{told, outcome, Restored}
 
 apart : ◌≡◌ {A = ℕ} 0 1 → ⊥

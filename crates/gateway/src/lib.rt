@@ -1,4 +1,6 @@
-// The list maker for a gateway written in C; restore_list.h tells a C programmer all of it.
+// The list maker for a gateway written in C; restore_list.h tells a C programmer all of it, and `gateway_c` is what C links.
+#![tactic(auto)]
+
 ghost use Rattle.std.specs.Prelude.{◌≡◌};
 ghost use Rattle.gateway.specs.Restored.{told, Restored};
 ghost use Rattle.lists.specs.declared.types.Made.TheVariants.{Wanted};
@@ -25,8 +27,7 @@ fn wanted_refused(why: Refusal) -> i32
 }
 
 // The list's length in bytes, or which image is refused and why, "then -8 for room".
-#[unsafe(no_mangle)]
-pub extern "C" fn restore_list(current: &[u8], wanted: &[u8], list: &mut [u8]) -> i32
+pub fn restore_list(current: &[u8], wanted: &[u8], list: &mut [u8]) -> i32
     ensures { Restored current.now wanted.now list.old list.new result }
 {
     match make_list(current, wanted, list) {

@@ -1,13 +1,11 @@
 -- Chains told two ways: every link in order, or no entry past its upper neighbour.
 -- Assumes nothing.
 use mathlib.Core.Path.{◌≡◌, refl, sym, ap, subst, ◌∙◌}
-use mathlib.Core.Bool.{Bool, true, false, not, ◌&&◌, and-eq-true_iff}
+use mathlib.Core.Bool.{Bool, true, false, not, and-eq-true_iff}
 use mathlib.Core.List.{List, [], ◌∷◌, map}
 use Prim.Native.Nat.{ℕ, ◌<◌}
-use native.Mathlib.Omega.{arith}
 use lib.Dec.{eqb, ltb}
-use lib.IntN.{ℤ}
-use lib.ListN.{get_or, take}
+use lib.ListN.{take}
 use lib.Seq.{get_or-take}
 use borrow.Author.Tests.{eqb-true, ltb-true, not-true}
 use Rattle.numbers.specs.Choice.{first, every}
@@ -16,7 +14,6 @@ use Rattle.numbers.specs.Signed.{signed16}
 use Rattle.dictionary.specs.Names.{configured}
 use Rattle.roles.specs.Chains.{Neighbours, chains, linked, upper_in, upper_of}
 use Rattle.roles.specs.declared.types.Link.{Link}
-use Rattle.roles.specs.declared.types.Link.TheVariants.{Free, Loose, Strict}
 use Rattle.roles.proofs.RoleLaws.{run, runs, chains_run}
 use Rattle.entries.specs.Judge.{held, past_upper}
 use Rattle.image.specs.Reading.{in_place, in_order}

@@ -3,12 +3,12 @@
 use mathlib.Core.Path.{◌≡◌, refl, sym, ap, subst, ◌∙◌}
 use mathlib.Core.Bool.{Bool, true, ◌&&◌, and-eq-true_iff, true≢false}
 use mathlib.Core.List.{List, [], ◌∷◌, ◌++◌, map, append-nil}
-use Prim.Native.Nat.{ℕ, zero, suc, ◌+◌, ◌-◌, ◌^◌, ◌<◌, ◌≤◌}
+use Prim.Native.Nat.{ℕ, zero, suc, ◌^◌, ◌<◌, ◌≤◌}
 use native.Mathlib.Nat.{le_of_suc-le-suc, not-suc-le-zero}
 use native.Mathlib.Omega.{arith}
 use lib.Dec.{ltb}
 use lib.ListN.{length, get_or, take, drop, length-append, length-drop, take-append-drop}
-use lib.Seq.{take_at, drop_at, drop-drop, length-take-le}
+use lib.Seq.{take_at, drop_at, length-take-le}
 use borrow.Author.Tests.{ltb-true}
 use Rattle.octets.specs.Little.{little, bytes, Bytes}
 use Rattle.octets.proofs.little.ByteLaws.{bytes_length, read_back, bytes_from, bytes_to, little_below}
@@ -23,7 +23,7 @@ use Rattle.entries.specs.declared.types.Verdict.{Verdict}
 use Rattle.entries.specs.declared.types.Verdict.TheVariants.{Good, NotFinite, Above, Below, ChainUp, ChainDown}
 use Rattle.records.specs.Layout.{Listed, listed, nothing, size, records, image_of, entry, offset}
 use Rattle.records.specs.Walk.{data_in, fits, values}
-use Rattle.records.proofs.RightLaws.{Right, AllRight, Whole}
+use Rattle.records.proofs.RightLaws.{AllRight, Whole}
 use Rattle.records.proofs.SizeLaws.{listed_extent, image_length}
 use Rattle.image.specs.Reading.{in_order, configuration_in}
 use Rattle.image.proofs.reading.Acceptance.{Accepted}

@@ -2,18 +2,17 @@
 -- Assumes nothing.
 use mathlib.Core.Path.{◌≡◌, refl, sym, ap, subst, ◌∙◌}
 use mathlib.Core.List.{List, [], ◌∷◌, ◌++◌}
-use Prim.Native.Nat.{ℕ, zero, suc, ◌+◌, ◌-◌, ◌*◌, ◌<◌, ◌≤◌}
+use Prim.Native.Nat.{ℕ, zero, suc, ◌+◌, ◌-◌, ◌<◌, ◌≤◌}
 use native.Mathlib.Nat.{le_of_suc-le-suc, not-suc-le-zero}
 use native.Mathlib.Omega.{arith}
-use lib.ListN.{length, get_or, set, take, drop, length-drop, drop_of_length-le}
+use lib.ListN.{length, get_or, set, take, drop, length-drop}
 use lib.Seq.{drop-cons, take_all}
 use Rattle.octets.specs.Little.{little}
 use Rattle.octets.proofs.little.Parts.{placed, part}
-use Rattle.dictionary.specs.Rows.{width}
 use Rattle.dictionary.specs.Names.{configured}
 use Rattle.records.specs.Layout.{Listed, size, listed, nothing}
 use Rattle.records.specs.Walk.{size_in, data_in, data_there, values}
-use Rattle.records.proofs.RightLaws.{Right, AllRight, Whole}
+use Rattle.records.proofs.RightLaws.{Right, AllRight}
 use Rattle.roles.proofs.widths.WidthLaws.{at_most_four}
 use Rattle.records.proofs.TakeLaws.{is_there}
 use Rattle.records.proofs.WalkLaws.{onward}

@@ -1,9 +1,9 @@
 -- Records written and read: what is written for words that fit is right and holds them; what is right is what would be written.
 -- Assumes nothing.
-use mathlib.Core.Path.{◌≡◌, refl, sym, ap, subst, ◌∙◌}
+use mathlib.Core.Path.{◌≡◌, refl, sym, ap, ◌∙◌}
 use mathlib.Core.Bool.{true}
 use mathlib.Core.List.{List, [], ◌∷◌, ◌++◌, append_assoc, append-nil}
-use Prim.Native.Nat.{ℕ, zero, suc, ◌+◌, ◌-◌, ◌*◌, ◌/◌, ◌%◌, ◌^◌, ◌<◌, ◌≤◌}
+use Prim.Native.Nat.{ℕ, suc, ◌+◌, ◌-◌, ◌%◌, ◌^◌, ◌<◌, ◌≤◌}
 use native.Mathlib.Nat.{le_of_suc-le-suc, not-suc-le-zero, sub_self}
 use native.Mathlib.Omega.{arith}
 use lib.ListN.{length, get_or, take, drop, replicate, length-drop, length-append, take-append-drop}
@@ -11,7 +11,6 @@ use lib.Seq.{take-add, take_at, drop_at, drop-drop, length-take-le}
 use Rattle.octets.specs.Little.{little, bytes, Bytes}
 use Rattle.octets.proofs.little.ByteLaws.{bytes_length, read_back, given_back, bytes_from, bytes_to}
 use Rattle.octets.proofs.little.Parts.{placed, part}
-use Rattle.dictionary.specs.Rows.{width}
 use Rattle.records.specs.Layout.{Listed, size, extent, record_of, records, entry}
 use Rattle.records.specs.Walk.{index_in, sub_in, size_in, data_in, fits, values}
 use Rattle.records.proofs.RightLaws.{Right, AllRight}

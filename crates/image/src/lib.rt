@@ -1,4 +1,6 @@
 // The configuration image: a unit written as one, bytes checked whether they are one, and one read into a unit, all of it or nothing.
+#![tactic(auto)]
+
 pub mod reading;
 pub mod refusals;
 pub mod writing;

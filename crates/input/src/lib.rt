@@ -1,4 +1,6 @@
 // An analog input: whether it is flagged, and what it hands on; turns.rt has the four of them in a tick, errors.rt the list of their flaggings.
+#![tactic(auto)]
+
 mod errors;
 pub mod turns;
 
@@ -9,7 +11,7 @@ use numbers::exact::{difference, sum, wide};
 use numbers::whole_line::{Point, limited};
 use signals::signal::Signal;
 
-#[derive(Drop)]
+#[derive(Clone, Copy)]
 pub struct Settings {
     pub fv1: i16,
     pub pv1: i16,
@@ -23,14 +25,14 @@ pub struct Settings {
 }
 
 // What an input keeps from tick to tick: the run of out ticks, and its flag.
-#[derive(Drop)]
+#[derive(Clone, Copy)]
 pub struct Memory {
     pub run: u32,
     pub flagged: bool,
 }
 
 // What an input hands on: its memory, its signal, and what 7130h reads.
-#[derive(Drop)]
+#[derive(Clone, Copy)]
 pub struct Sensed {
     pub memory: Memory,
     pub signal: Signal,

@@ -1,7 +1,7 @@
 -- Records copied one after the other.
 -- Assumes nothing.
 use mathlib.Core.Path.{◌≡◌, refl, sym, ap, ◌∙◌}
-use mathlib.Core.List.{List, [], ◌∷◌, ◌++◌, flat_map}
+use mathlib.Core.List.{List, ◌++◌, flat_map}
 use Prim.Native.Nat.{ℕ, suc, ◌+◌, ◌-◌, ◌<◌, ◌≤◌}
 use native.Mathlib.Omega.{arith}
 use lib.ListN.{length, get_or, set, take, drop, length-append, length-drop, drop_of_length-le}
@@ -12,7 +12,6 @@ use Rattle.octets.proofs.little.Parts.{placed, part, sets_append}
 use Rattle.records.specs.Walk.{size_in}
 use Rattle.lists.specs.Noting.{Stands, record_from}
 use Rattle.lists.proofs.changes.ComparingLaws.{first_tells}
-use Rattle.lists.specs.Copying.{Standing}
 
 -- ---- one record more
 

@@ -1,4 +1,6 @@
 // A restore list, made from a current and a wanted image.
+#![tactic(auto)]
+
 pub mod changes;
 mod copying;
 pub mod types;

@@ -2,7 +2,7 @@
 use records::types::Refusal;
 
 // So many bytes of list, or which image is refused and why, or no room for the list.
-#[derive(Drop)]
+#[derive(Clone, Copy)]
 pub enum Made {
     Done(usize),
     Current(Refusal),

@@ -1,4 +1,6 @@
 // A logic block: one condition of its table here and in digits.rt, what an operator makes of three in gathering.rt, the two blocks in a tick in turns.rt.
+#![tactic(auto)]
+
 mod digits;
 pub mod gathering;
 pub mod turns;
@@ -11,7 +13,7 @@ use signals::reading::{absent, as_real};
 use signals::signal::Signal;
 
 // What a condition comes to.
-#[derive(Drop)]
+#[derive(Clone, Copy)]
 pub enum Verdict {
     False,
     True,

@@ -2,7 +2,7 @@
 -- Assumes nothing.
 use Rattle.std.specs.Prelude.{ℕ, zero, suc, ◌+◌, ◌*◌, List}
 use Rattle.signals.specs.Signal.{as_real}
-use Rattle.signals.specs.Words.{number_of}
+use Rattle.signals.specs.Words.{number_of_signal}
 use Rattle.signals.specs.declared.signal.Signal.{Signal}
 use Rattle.math.specs.Math.{Running, joined, combined}
 use Rattle.math.specs.declared.Operand.{Operand}
@@ -55,4 +55,4 @@ math_signal unit n =
 unfoldable pub math_turn : ℕ → List ℕ → List ℕ
 math_turn n unit =
     let signal = math_signal unit n in
-    lay (publish unit 0x4530 n (number_of (as_real signal))) maths n signal
+    lay (publish unit 0x4530 n (number_of_signal (as_real signal))) maths n signal

@@ -1,5 +1,7 @@
 // A math block: what it is made of, and one step of its operators. Each operation stands in the order that the paper gives, and is
 // rounded once. folding.rt joins the inputs; turns.rt has the four blocks in a tick.
+#![tactic(auto)]
+
 pub mod folding;
 pub mod turns;
 
@@ -12,7 +14,7 @@ use numbers::limits::limit_real;
 use signals::signal::Signal;
 
 // An input: its signal, scaling 1 and 2, and its gain in per cent.
-#[derive(Drop)]
+#[derive(Clone, Copy)]
 pub struct Operand {
     pub signal: Signal,
     pub from: i16,
@@ -21,7 +23,7 @@ pub struct Operand {
 }
 
 // 4521h and 4523h.
-#[derive(Drop)]
+#[derive(Clone, Copy)]
 pub struct Ends {
     pub from: i16,
     pub to: i16,
@@ -29,7 +31,7 @@ pub struct Ends {
 
 // The running result, and the gain and the scaling ends of the input that joins it. An input in error or a division by zero leaves
 // `failed` set.
-#[derive(Drop)]
+#[derive(Clone, Copy)]
 pub struct Fold {
     pub run: f32,
     pub gain: i16,

@@ -5,7 +5,7 @@ ghost use Rattle.numbers.specs.Line.{nearest, line_at};
 
 use crate::signed::signed;
 
-#[derive(Drop)]
+#[derive(Clone, Copy)]
 pub struct Point {
     pub x: i16,
     pub y: i16,

@@ -3,4 +3,5 @@ pub mod Example
 pub mod Lasting
 pub mod MotionLaws
 pub mod OutputLaws
+pub mod Rule7
 pub mod RuleLaws

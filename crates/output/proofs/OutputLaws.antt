@@ -1,4 +1,4 @@
--- Laws of the output: rules 1 to 6 give the value they name, and under rule 7 the command stays between the two configured limits.
+-- Laws of the output: rules 1 to 6 give the value they name; what is limited, the target and a ramp's tick lie between the two configured limits (`Rule7` goes on).
 -- Assumes nothing.
 use Prim.Native.Nat.{ℕ, ◌*◌, ◌<◌, ◌≤◌}
 use mathlib.Core.Bool.{Bool}
@@ -15,7 +15,7 @@ use Rattle.numbers.proofs.Orders.{lt_is_below, not_below_is_le}
 use Rattle.numbers.proofs.whole_line.LineLaws.{from_first, to_second}
 use Rattle.numbers.proofs.Choices.{chosen}
 use Rattle.output.specs.Output.{rule, rule_of}
-use Rattle.output.specs.Commanded.{Within, SomeRule, Rules1To6, Rule7}
+use Rattle.output.specs.Commanded.{Within, SomeRule, Rules1To6}
 use Rattle.output.specs.Output.{way, higher, lower, rise, fall, reached, advanced, moved, target, ramped, rests, by_rule, driven}
 use Rattle.signals.specs.Signal.{whole}
 use Rattle.signals.specs.declared.signal.Signal.{Signal}
@@ -59,7 +59,7 @@ module _ {low high a b : ℤ} (wa : Within low high a) (wb : Within low high b) 
 
 -- ---- "So under rule 7 the command stays between the two configured limits, and rules 1 to 6 name their value."
 module _ (s : Settings) (control enable over : Signal) (m : Motion) where
-  by : {n : ℕ} → rule_of s control enable over ≡ n → (driven s control enable over m).command ≡ (by_rule n s (whole control) m).command
+  pub by : {n : ℕ} → rule_of s control enable over ≡ n → (driven s control enable over m).command ≡ (by_rule n s (whole control) m).command
   unfolding driven
   by e = ap (λ (n : ℕ). (by_rule n s (whole control) m).command) e
 
@@ -101,7 +101,3 @@ module _ (s : Settings) (order : s.fv1 <ℤ s.fv2) where
       let P : Motion → Type 0 = λ n. Within s.fv1 s.fv2 n.command in
       let aim = target_within v in
       chosen P _ _ _ (λ e. aim) (λ e. chosen P _ _ _ (λ g. aim) (λ g. advances (limited_within m.command) aim s _ _ _ _))
-
-pub rule_7 : Rule7
-unfolding Rule7 by_rule first
-rule_7 s control enable over m order e = rw (by s control enable over m e) (ramped_within s order (whole control) m)

@@ -1,5 +1,7 @@
 // A current output: where a tick of a ramp puts its command here, the words that an output remembers in ramps.rt, what turns it on or off in
 // turning.rt, the four outputs with their rules in turns.rt.
+#![tactic(auto)]
+
 mod distances;
 mod ramps;
 pub mod turning;
@@ -13,7 +15,7 @@ use crate::distances::{distance, lowered, narrow, raised};
 use numbers::exact::wide;
 use numbers::whole_line::{Point, limited};
 
-#[derive(Drop)]
+#[derive(Clone, Copy)]
 pub struct Settings {
     pub enable_response: u8,
     pub override_response: u8,
@@ -30,7 +32,7 @@ pub struct Settings {
 
 // What an output keeps from tick to tick: its command, the ticks counted, and what the count began with: the command, whether it rises, FV1,
 // FV2 and the ramp in use. Count 0: it starts again.
-#[derive(Drop)]
+#[derive(Clone, Copy)]
 pub struct Motion {
     pub command: i16,
     pub count: u32,

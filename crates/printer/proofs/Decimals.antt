@@ -15,7 +15,7 @@ use lib.Seq.{drop-cons}
 use Rattle.numbers.specs.Choice.{first, every}
 use Rattle.numbers.specs.Order.{below}
 use Rattle.numbers.specs.Signed.{twos, signed16}
-use Rattle.printer.specs.Reading.{is_digit, tens, size_of, is_digits, is_integer16, is_decimal, minus, unsigned, value_of}
+use Rattle.printer.specs.Reading.{is_digit, tens, size_of_digits, is_digits, is_integer16, is_decimal, minus, unsigned, value_of}
 use Rattle.printer.specs.Steps.{size_read, number_read}
 use Rattle.printer.specs.declared.reading.decimal.Size.{Size}
 use Rattle.printer.specs.declared.reading.decimal.Size.TheVariants as size
@@ -41,7 +41,7 @@ sized_from n rest limit = first (every is_digit rest && leb (foldl tens n rest) 
 
 module _ (l : List ℕ) (limit : ℕ) where
   pub sized_start : 1 ≤ length l → length l ≤ 5 → size_read l limit ≡ sized_from 0 (drop 0 l) limit
-  unfolding size_read sized_from size_of is_digits
+  unfolding size_read sized_from size_of_digits is_digits
   sized_start h k = rw (le-leb 1 (length l) h, le-leb (length l) 5 k)
 
   pub sized_none : length l < 1 → size_read l limit ≡ size.Bad
@@ -82,19 +82,19 @@ no_size : (n : ℕ) → size.Is n ≡ size.Bad → ⊥
 no_size n e = let z : ◌≡◌ {A = ℕ} 0 1 = cc in omega arith
 
 module _ (d : List ℕ) (limit : ℕ) where
-  told_bad : size_read d limit ≡ size.Bad → (is_digits d && leb (size_of d) limit) ≡ false
+  told_bad : size_read d limit ≡ size.Bad → (is_digits d && leb (size_of_digits d) limit) ≡ false
   unfolding size_read
-  told_bad e = passed (is_digits d && leb (size_of d) limit) (size.Is (size_of d)) size.Bad (no_size (size_of d)) e
+  told_bad e = passed (is_digits d && leb (size_of_digits d) limit) (size.Is (size_of_digits d)) size.Bad (no_size (size_of_digits d)) e
 
-  told_is : (n : ℕ) → size_read d limit ≡ size.Is n → ((is_digits d && leb (size_of d) limit) ≡ true) × (size.Is (size_of d) ≡ size.Is n)
+  told_is : (n : ℕ) → size_read d limit ≡ size.Is n → ((is_digits d && leb (size_of_digits d) limit) ≡ true) × (size.Is (size_of_digits d) ≡ size.Is n)
   unfolding size_read
-  told_is n e = chosen (is_digits d && leb (size_of d) limit) (size.Is (size_of d)) size.Bad (size.Is n) (λ q. no_size n (sym q)) e
+  told_is n e = chosen (is_digits d && leb (size_of_digits d) limit) (size.Is (size_of_digits d)) size.Bad (size.Is n) (λ q. no_size n (sym q)) e
 
 pub sized_most : (l : List ℕ) (limit n : ℕ) → size_read l limit ≡ size.Is n → n ≤ limit
 sized_most l limit n e =
     let k = told_is l limit n e in
-    let m : size_of l ≡ n = let q = k.1 in cc in
-    omega (arith, m, leb-true (size_of l) limit (both (is_digits l) (leb (size_of l) limit) k.0).1)
+    let m : size_of_digits l ≡ n = let q = k.1 in cc in
+    omega (arith, m, leb-true (size_of_digits l) limit (both (is_digits l) (leb (size_of_digits l) limit) k.0).1)
 
 -- ---- INTEGER16 by sign and size
 turned : (a b : ℕ) → not (ltb a b) ≡ leb b a
@@ -138,10 +138,10 @@ minus_no [] e = refl
 minus_no (b ∷ rest) e = ne_eqb b 0x2D e
 
 -- the digits d of a field l, and the number z that they make of a size, an INTEGER16 up to a limit
-module _ (l d : List ℕ) (z : ℕ → ℤ) (limit : ℕ) (digits : unsigned l ≡ d) (made : value_of l ≡ z (size_of d)) (inside : (n : ℕ) → is_integer16 (z n) ≡ leb n limit) where
-  by_size : number_read l ≡ first (is_digits d && leb (size_of d) limit) (number.Is (z (size_of d))) number.Bad
+module _ (l d : List ℕ) (z : ℕ → ℤ) (limit : ℕ) (digits : unsigned l ≡ d) (made : value_of l ≡ z (size_of_digits d)) (inside : (n : ℕ) → is_integer16 (z n) ≡ leb n limit) where
+  by_size : number_read l ≡ first (is_digits d && leb (size_of_digits d) limit) (number.Is (z (size_of_digits d))) number.Bad
   unfolding number_read is_decimal
-  by_size = rw (digits, made, inside (size_of d))
+  by_size = rw (digits, made, inside (size_of_digits d))
 
   number_bad : size_read d limit ≡ size.Bad → number_read l ≡ number.Bad
   unfolding first
@@ -151,7 +151,7 @@ module _ (l d : List ℕ) (z : ℕ → ℤ) (limit : ℕ) (digits : unsigned l �
   unfolding first
   number_is n e =
       let k = told_is d limit n e in
-      let m : size_of d ≡ n = let q = k.1 in cc in
+      let m : size_of_digits d ≡ n = let q = k.1 in cc in
       by_size ∙ rw (k.0, m)
 
 module _ (l : List ℕ) (e : get_or l 0 0 ≡ 0x2D) where
@@ -159,7 +159,7 @@ module _ (l : List ℕ) (e : get_or l 0 0 ≡ 0x2D) where
   unfolding unsigned first
   minus_digits = rw (minus_yes l e)
 
-  minus_made : value_of l ≡ neg_ℤ (pos (size_of (drop 1 l)))
+  minus_made : value_of l ≡ neg_ℤ (pos (size_of_digits (drop 1 l)))
   unfolding value_of first
   minus_made = rw (minus_digits, minus_yes l e)
 
@@ -174,7 +174,7 @@ module _ (l : List ℕ) (e : get_or l 0 0 ≡ 0x2D → ⊥) where
   unfolding unsigned first
   plain_digits = rw (minus_no l e)
 
-  plain_made : value_of l ≡ pos (size_of l)
+  plain_made : value_of l ≡ pos (size_of_digits l)
   unfolding value_of first
   plain_made = rw (plain_digits, minus_no l e)
 

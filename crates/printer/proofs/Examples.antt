@@ -9,7 +9,7 @@ use lib.IntN.{pos, negsuc}
 use Rattle.numbers.specs.Choice.{first, every}
 use Rattle.numbers.specs.Order.{below}
 use Rattle.printer.specs.Printing.{hex_digit, hex2, each, width, last_digits, digits, decimal, spaced, ended, reply_line, tick_line, silent_line, unknown_line}
-use Rattle.printer.specs.Reading.{ahead, fields, letter, is_hex, hex_value, is_frame, bytes_of, is_digit, minus, unsigned, tens, size_of, value_of, is_digits, is_integer16, is_decimal, unknown, frame_of, tick_of, asked_frame, asked_tick, asked_by, asked}
+use Rattle.printer.specs.Reading.{ahead, fields, letter, is_hex, hex_value, is_frame, bytes_of_digits, is_digit, minus, unsigned, tens, size_of_digits, value_of, is_digits, is_integer16, is_decimal, unknown, frame_of, tick_of, asked_frame, asked_tick, asked_by, asked}
 use Rattle.printer.specs.declared.reading.Request.{Request}
 
 -- the bytes of a text of ASCII characters
@@ -48,7 +48,7 @@ pub lines_read :
     ∷ unknown
     ∷ unknown
     ∷ []
-unfolding bytes readings asked asked_by asked_frame asked_tick tick_of frame_of unknown is_decimal is_integer16 is_digits value_of size_of tens unsigned minus is_digit bytes_of is_frame hex_value is_hex letter fields ahead every below first
+unfolding bytes readings asked asked_by asked_frame asked_tick tick_of frame_of unknown is_decimal is_integer16 is_digits value_of size_of_digits tens unsigned minus is_digit bytes_of_digits is_frame hex_value is_hex letter fields ahead every below first
 lines_read = refl
 
 unfoldable pub printings : List (List ℕ)

@@ -1,6 +1,6 @@
 -- A frame's field: 16 hex digits, read two at a time.
 -- Assumes nothing.
-use Prim.Native.Nat.{ℕ, suc, ◌+◌, ◌-◌, ◌*◌, ◌<◌, ◌≤◌}
+use Prim.Native.Nat.{ℕ, suc, ◌+◌, ◌*◌, ◌<◌, ◌≤◌}
 use mathlib.Core.Bool.{Bool, true, false, ◌&&◌, and-false}
 use mathlib.Core.List.{List, [], ◌∷◌, ◌++◌, append_assoc, append-nil}
 use mathlib.Core.Path.{◌≡◌, refl, ap, sym, ◌∙◌}
@@ -11,7 +11,7 @@ use lib.Dec.{eqb, leb}
 use lib.ListN.{length, take, drop, get_or, set, take-append-drop, drop_of_length-le}
 use lib.Seq.{drop-cons, take-suc-set, take_all}
 use Rattle.numbers.specs.Choice.{first, every}
-use Rattle.printer.specs.Reading.{fields, is_hex, hex_value, is_frame, bytes_of, unknown, frame_of, asked_frame}
+use Rattle.printer.specs.Reading.{fields, is_hex, hex_value, is_frame, bytes_of_digits, unknown, frame_of, asked_frame}
 use Rattle.printer.specs.Steps.{nibble_of, span, following}
 use Rattle.printer.specs.declared.reading.Request.{Request}
 use Rattle.printer.proofs.Cutting.{cut, whole}
@@ -46,10 +46,10 @@ nibble_no b h = go (is_hex b) refl where
   go false p = p
 
 -- ---- a field of hex digits has no space in it
-frame_of_lem : (d : List ℕ) → asked_frame (fields d) ≡ first (is_frame d) (frame_of (bytes_of d)) unknown
+frame_of_lem : (d : List ℕ) → asked_frame (fields d) ≡ first (is_frame d) (frame_of (bytes_of_digits d)) unknown
 unfolding asked_frame is_frame every first following
 frame_of_lem d = go (is_frame d) refl where
-  alone : (t : Bool) → is_frame d ≡ t → fields d ≡ d ∷ [] → asked_frame (fields d) ≡ first t (frame_of (bytes_of d)) unknown
+  alone : (t : Bool) → is_frame d ≡ t → fields d ≡ d ∷ [] → asked_frame (fields d) ≡ first t (frame_of (bytes_of_digits d)) unknown
   alone true p q = rw (q, p)
   alone false p q = rw (q, p)
 
@@ -60,13 +60,13 @@ frame_of_lem d = go (is_frame d) refl where
       let n = length (following (drop (span r) r)) in
       rw (cut d, q, cut r, ne_eqb (suc (suc n)) 1 (λ e. omega arith))
 
-  go : (t : Bool) → is_frame d ≡ t → asked_frame (fields d) ≡ first t (frame_of (bytes_of d)) unknown
+  go : (t : Bool) → is_frame d ≡ t → asked_frame (fields d) ≡ first t (frame_of (bytes_of_digits d)) unknown
   go true p = alone true p (whole is_hex hex_no_space d (both (eqb (length d) 16) (every is_hex d) p).1)
   go false p = other p (drop (span d) d) refl
 
 -- ---- the bytes read so far, and the digits that are left
 unfoldable pub framed_from : List ℕ → List ℕ → Request
-framed_from done rest = first (every is_hex rest) (frame_of (done ++ bytes_of rest)) unknown
+framed_from done rest = first (every is_hex rest) (frame_of (done ++ bytes_of_digits rest)) unknown
 
 module _ (d : List ℕ) where
   pub frame_start : length d ≡ 16 → asked_frame (fields d) ≡ framed_from [] d
@@ -78,7 +78,7 @@ module _ (d : List ℕ) where
   frame_long h = frame_of_lem d ∙ rw (ne_eqb (length d) 16 h)
 
   pub frame_done : (bytes : List ℕ) (k : ℕ) → length d ≤ 2 * k → length bytes ≤ k → framed_from (take k bytes) (drop (2 * k) d) ≡ frame_of bytes
-  unfolding framed_from every bytes_of first
+  unfolding framed_from every bytes_of_digits first
   frame_done bytes k h m = rw (drop_of_length-le d h, append-nil, take_all k bytes m)
 
   module _ (k : ℕ) (h : 2 * k + 1 < length d) where
@@ -98,7 +98,7 @@ module _ (d : List ℕ) where
 
     pub frame_step : (bytes : List ℕ) (high low : ℕ) → k < length bytes → high ≡ nibble_of (get_or d (2 * k) 0) → low ≡ nibble_of (get_or d (2 * k + 1) 0) → high ≤ 15 → low ≤ 15
         → framed_from (take k bytes) (drop (2 * k) d) ≡ framed_from (take (k + 1) (set bytes k (16 * high + low))) (drop (2 * (k + 1)) d)
-    unfolding framed_from every bytes_of
+    unfolding framed_from every bytes_of_digits
     frame_step bytes high low room eh el h l =
         let x = get_or d (2 * k) 0 in
         let y = get_or d (2 * k + 1) 0 in

@@ -1,6 +1,6 @@
 -- What is printed as decimals is read back: a tick's line made of the printed samples asks for a tick of these samples.
 -- Assumes nothing.
-use Prim.Native.Nat.{ℕ, zero, suc, ◌+◌, ◌-◌, ◌/◌, ◌%◌, ◌^◌, ◌<◌}
+use Prim.Native.Nat.{ℕ, zero, suc, ◌+◌, ◌/◌, ◌%◌, ◌^◌, ◌<◌}
 use mathlib.Core.Bool.{Bool, true, false, not}
 use mathlib.Core.List.{List, [], ◌∷◌, map, foldl-append}
 use mathlib.Core.Path.{◌≡◌, refl, ap, ◌∙◌}
@@ -14,7 +14,7 @@ use mir.Syntax.{w16}
 use mir.Val.{SFits}
 use Rattle.numbers.specs.Choice.{first, every}
 use Rattle.printer.specs.Printing.{width, last_digits, digits, decimal, spaced}
-use Rattle.printer.specs.Reading.{fields, letter, is_digit, minus, unsigned, tens, size_of, value_of, is_digits, is_decimal, tick_of, asked_tick, asked_by, asked}
+use Rattle.printer.specs.Reading.{fields, letter, is_digit, minus, unsigned, tens, size_of_digits, value_of, is_digits, is_decimal, tick_of, asked_tick, asked_by, asked}
 use Rattle.printer.proofs.Cutting.{whole, apart}
 use Rattle.printer.proofs.Decimals.{digit_yes, minus_in, plain_in}
 use Rattle.printer.proofs.Every.{both, every_append, every_weaker}
@@ -28,8 +28,8 @@ last_are_digits (suc w) n =
     let h : n % 10 < 10 = mod-lt n (lit< tt) in
     every_append is_digit (last_digits w (n / 10)) ((0x30 + n % 10) ∷ []) (last_are_digits w (n / 10)) (rw (digit_yes (0x30 + n % 10) (omega arith) (omega arith)))
 
-last_say : (w n : ℕ) → n < 10 ^ w → size_of (last_digits w n) ≡ n
-unfolding last_digits size_of tens
+last_say : (w n : ℕ) → n < 10 ^ w → size_of_digits (last_digits w n) ≡ n
+unfolding last_digits size_of_digits tens
 last_say zero n h = omega arith
 last_say (suc w) n h =
     let k : n / 10 < 10 ^ w = (div-lt_iff_lt-mul (lit< tt)).1 (rw (pow-suc 10 w) at h) in
@@ -49,7 +49,7 @@ are_digits : (n : ℕ) → every is_digit (digits n) ≡ true
 unfolding digits
 are_digits n = last_are_digits (width n) n
 
-digits_say : (n : ℕ) → n < 100000 → size_of (digits n) ≡ n
+digits_say : (n : ℕ) → n < 100000 → size_of_digits (digits n) ≡ n
 unfolding digits
 digits_say n h = last_say (width n) n (width_room n h)
 
@@ -93,7 +93,7 @@ unfolding decimal is_decimal value_of unsigned minus every no_space first
 read_back (pos n) f =
     let h : n < 32768 = f.sfits in
     let m : minus (digits n) ≡ false = no_minus (digits n) (are_digits n) in
-    let k : size_of (digits n) ≡ n = digits_say n (omega arith) in
+    let k : size_of_digits (digits n) ≡ n = digits_say n (omega arith) in
     record {
       good = rw (m, digits_good n, k) (plain_in n ∙ le-leb n 32767 (omega arith));
       says = rw (m, k);
@@ -101,7 +101,7 @@ read_back (pos n) f =
     }
 read_back (negsuc n) f =
     let h : n < 32768 = f.sfits in
-    let k : size_of (digits (suc n)) ≡ suc n = digits_say (suc n) (omega arith) in
+    let k : size_of_digits (digits (suc n)) ≡ suc n = digits_say (suc n) (omega arith) in
     record {
       good = rw (digits_good (suc n), k) (minus_in (suc n) ∙ le-leb (suc n) 32768 (omega arith));
       says = rw k;

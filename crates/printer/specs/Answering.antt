@@ -11,7 +11,6 @@ use Rattle.unit.specs.Entry.{whole, byte}
 use Rattle.controller.specs.Tick.{ticked}
 use Rattle.printer.specs.Printing.{Printed, reply_line, silent_line, tick_line, unknown_line}
 use Rattle.printer.specs.Reading.{asked}
-use Rattle.printer.specs.declared.reading.Request.{Request}
 use Rattle.printer.specs.declared.reading.Verb.{Verb}
 use Rattle.printer.specs.declared.reading.Verb.TheVariants.{Frame, Tick, Unknown}
 

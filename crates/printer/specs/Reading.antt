@@ -2,7 +2,7 @@
 -- One space between fields; decimals have an optional - and 1 to 5 digits; hex is upper case. Any other line, empty or longer too, prints ?."
 -- A line is the list of its bytes, without its line end.
 -- Assumes nothing.
-use Rattle.std.specs.Prelude.{ℕ, ◌+◌, ◌-◌, ◌*◌, Bool, true, false, not, ◌&&◌, ◌||◌, leb, eqb, ℤ, pos, neg_ℤ, length, get_or, drop, replicate}
+use Rattle.std.specs.Prelude.{ℕ, ◌+◌, ◌-◌, ◌*◌, Bool, false, not, ◌&&◌, ◌||◌, leb, eqb, ℤ, pos, neg_ℤ, length, get_or, drop, replicate}
 use mathlib.Core.List.{List, [], ◌∷◌, map, foldl}
 use Rattle.numbers.specs.Choice.{first, every}
 use Rattle.numbers.specs.Order.{below}
@@ -42,10 +42,10 @@ unfoldable pub is_frame : List ℕ → Bool
 is_frame field = eqb (length field) 16 && every is_hex field
 
 -- two digits a byte, the first the higher
-unfoldable pub bytes_of : List ℕ → List ℕ
-bytes_of [] = []
-bytes_of (high ∷ []) = []
-bytes_of (high ∷ low ∷ rest) = (16 * hex_value high + hex_value low) ∷ bytes_of rest
+unfoldable pub bytes_of_digits : List ℕ → List ℕ
+bytes_of_digits [] = []
+bytes_of_digits (high ∷ []) = []
+bytes_of_digits (high ∷ low ∷ rest) = (16 * hex_value high + hex_value low) ∷ bytes_of_digits rest
 
 -- ---- "decimal INTEGER16", "an optional - and 1 to 5 digits": - is 2Dh
 
@@ -67,12 +67,12 @@ unfoldable pub tens : ℕ → ℕ → ℕ
 tens n b = n * 10 + (b - 0x30)
 
 -- the number that digits say, the first the highest
-unfoldable pub size_of : List ℕ → ℕ
-size_of digits = foldl tens 0 digits
+unfoldable pub size_of_digits : List ℕ → ℕ
+size_of_digits digits = foldl tens 0 digits
 
 -- the number that a field says; -0 is 0
 unfoldable pub value_of : List ℕ → ℤ
-value_of field = first (minus field) (neg_ℤ (pos (size_of (unsigned field)))) (pos (size_of (unsigned field)))
+value_of field = first (minus field) (neg_ℤ (pos (size_of_digits (unsigned field)))) (pos (size_of_digits (unsigned field)))
 
 -- "1 to 5 digits"
 unfoldable pub is_digits : List ℕ → Bool
@@ -102,7 +102,7 @@ tick_of samples = record { verb = Tick; frame = replicate 8 0; samples = samples
 
 -- after S: one field, 16 hex digits
 unfoldable pub asked_frame : List (List ℕ) → Request
-asked_frame rest = first (eqb (length rest) 1 && every is_frame rest) (frame_of (bytes_of (get_or rest 0 []))) unknown
+asked_frame rest = first (eqb (length rest) 1 && every is_frame rest) (frame_of (bytes_of_digits (get_or rest 0 []))) unknown
 
 -- after T: four fields, each a decimal
 unfoldable pub asked_tick : List (List ℕ) → Request

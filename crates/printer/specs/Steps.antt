@@ -2,7 +2,7 @@
 -- Assumes nothing.
 use Rattle.std.specs.Prelude.{ℕ, suc, ◌+◌, ◌&&◌, List, [], ◌∷◌, leb, eqb, length}
 use Rattle.numbers.specs.Choice.{first}
-use Rattle.printer.specs.Reading.{is_hex, hex_value, size_of, value_of, is_digits, is_decimal, fields}
+use Rattle.printer.specs.Reading.{is_hex, hex_value, size_of_digits, value_of, is_digits, is_decimal, fields}
 use Rattle.printer.specs.declared.reading.decimal.Size.{Size}
 use Rattle.printer.specs.declared.reading.decimal.Size.TheVariants as size
 use Rattle.printer.specs.declared.reading.decimal.Number.{Number}
@@ -16,7 +16,7 @@ nibble_of b = first (is_hex b) (hex_value b) 16
 
 -- 1 to 5 digits whose number is at most the limit
 unfoldable pub size_read : List ℕ → ℕ → Size
-size_read digits limit = first (is_digits digits && leb (size_of digits) limit) (size.Is (size_of digits)) size.Bad
+size_read digits limit = first (is_digits digits && leb (size_of_digits digits) limit) (size.Is (size_of_digits digits)) size.Bad
 
 -- a decimal INTEGER16, or none
 unfoldable pub number_read : List ℕ → Number

@@ -1,4 +1,6 @@
 // The session printer: what a line does to the unit, and what it prints.
+#![tactic(auto)]
+
 pub mod answer_lines;
 pub mod answering;
 pub mod printing;

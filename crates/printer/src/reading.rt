@@ -10,7 +10,7 @@ ghost use Rattle.printer.specs.Steps.{following};
 use crate::reading::field::{Field, read_field};
 use crate::reading::hexadecimal::nibble;
 
-#[derive(Drop)]
+#[derive(Clone, Copy)]
 pub enum Verb {
     Frame,
     Tick,
@@ -18,7 +18,7 @@ pub enum Verb {
 }
 
 // Parts that the verb does not use are zeros.
-#[derive(Drop)]
+#[derive(Clone, Copy)]
 pub struct Request {
     pub verb: Verb,
     pub frame: [u8; 8],

@@ -1,19 +1,19 @@
 -- The promises of a question why.
 -- Assumes nothing.
-use Prim.Native.Nat.{ℕ, ◌+◌, ◌-◌, ◌<◌}
+use Prim.Native.Nat.{ℕ, ◌+◌, ◌-◌}
 use mathlib.Core.Bool.{Bool, true, false, not, ◌||◌}
 use mathlib.Core.List.{List, [], ◌∷◌, ◌++◌}
-use mathlib.Core.Path.{◌≡◌, refl, sym, ap, ◌∙◌}
+use mathlib.Core.Path.{◌≡◌, refl, ap, ◌∙◌}
 use native.Mathlib.Omega.{arith}
 use borrow.Author.Tests.{eq-eqb}
-use lib.IntN.{ℤ, pos, negsuc}
+use lib.IntN.{pos, negsuc}
 use lib.ListN.{length, get_or, set, drop, length-set}
 use lib.Seq.{sets, get_or-append-add, get_or-drop}
 use Rattle.numbers.specs.Choice.{first}
 use Rattle.dictionary.specs.Names.{configured, words}
 use Rattle.dictionary.specs.Unit.{signals_at, runs_at, flags_at, before_at, ticked_at, unit_size, unticked}
 use Rattle.dictionary.proofs.naming.NameLaws as Names
-use Rattle.dictionary.proofs.Unticked.{signals_behind, signals_before, mark_behind, forgotten, length_stays}
+use Rattle.dictionary.proofs.Unticked.{signals_behind, signals_before, mark_behind, forgotten}
 use Rattle.roles.specs.Values.{starts, at_start}
 use Rattle.records.specs.declared.types.Outcome.{Outcome}
 use Rattle.records.specs.declared.types.Outcome.TheVariants.{Good, Refused}

@@ -4,21 +4,19 @@ use Prim.Native.Nat.{ℕ, ◌+◌, ◌<◌}
 use mathlib.Core.List.{List}
 use mathlib.Core.Path.{◌≡◌, refl, sym, ap, ◌∙◌, subst}
 use lib.IntN.{ℤ}
-use lib.Signed.{◌≤ℤ◌}
 use mir.Syntax.{w16}
 use mir.Val.{SFits}
 use Rattle.numbers.specs.Signed.{signed16, pattern16}
 use Rattle.numbers.proofs.rounding.Rising.{nearest_rises}
 use Rattle.signals.specs.Signal as signals
 use Rattle.signals.specs.declared.signal.Signal.{Signal}
-use Rattle.signals.specs.declared.signal.Signal.TheVariants.{Whole, Real}
+use Rattle.signals.specs.declared.signal.Signal.TheVariants.{Whole}
 use Rattle.signals.proofs.keeping.WordLaws.{Kept, pattern_read}
 use Rattle.roles.specs.Values.{at_start}
 use Rattle.unit.specs.Entry.{entry, whole}
 use Rattle.unit.specs.Held.{tables, held}
 use Rattle.table.specs.Table.{curve, looked_up}
 use Rattle.table.proofs.Curves.{never_dips, stays_between}
-use Rattle.controller.specs.Tick.{ticked}
 use Rattle.controller.specs.Turns.{at_turn}
 use Rattle.controller.proofs.Numbers.{table_number}
 use Rattle.promises.specs.Curves.{Through, Gives, NoSmaller, TablesNeverDip, Number, TablesStayBetween}

@@ -7,7 +7,7 @@ use Prim.Native.Nat.{ℕ, ◌+◌, ◌<◌, ◌≤◌}
 use native.Mathlib.Omega.{arith}
 use lib.Dec.{ltb}
 use lib.ListN.{length, get_or, take, drop, length-append, length-drop, take-append-drop}
-use lib.Seq.{take_at, drop_at, drop-drop, take-append-le, drop-append-le, length-take-le}
+use lib.Seq.{take_at, drop_at, take-append-le, drop-append-le}
 use borrow.Author.Tests.{ltb-true}
 use Rattle.octets.specs.Little.{little, bytes, Bytes}
 use Rattle.octets.proofs.little.ByteLaws.{bytes_length, read_back, bytes_from}
@@ -16,7 +16,7 @@ use Rattle.dictionary.specs.Names.{configured}
 use Rattle.dictionary.proofs.naming.NameLaws as Names
 use Rattle.entries.specs.Judge.{judged}
 use Rattle.sdo.specs.Answers.{size_of, stored, answer}
-use Rattle.records.specs.Layout.{listed, size, entry, offset, record_in}
+use Rattle.records.specs.Layout.{listed, size, entry, record_in}
 use Rattle.records.specs.Walk.{size_in, data_in}
 use Rattle.records.specs.declared.types.Outcome.TheVariants.{Good}
 use Rattle.records.proofs.RightLaws.{Right}

@@ -42,7 +42,7 @@ use Rattle.controller.specs.Tick.{ticked}
 use Rattle.controller.specs.Commands.{rule_for}
 use Rattle.promises.specs.Running.{Event, frame, tick, load, happens, run, MadeOfBytes, Sound}
 use Rattle.promises.proofs.Accepted as Accepted
-use Rattle.promises.proofs.Running.{sound_on, sizes, low_by_load, size_at_start, always_sound}
+use Rattle.promises.proofs.Running.{sound_on, sizes, low_by_load, always_sound}
 use Rattle.promises.proofs.Ticking.{each_tick}
 
 abbrev NotBelow : List ℕ → Type 0

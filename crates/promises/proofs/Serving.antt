@@ -1,17 +1,17 @@
 -- The promises of frames.
 -- Assumes nothing.
-use mathlib.Core.Path.{◌≡◌, refl, sym, ap, ◌∙◌, subst}
+use mathlib.Core.Path.{◌≡◌, refl, sym, ap, ◌∙◌}
 use mathlib.Core.Bool.{Bool, true, false, ◌&&◌, not, and-eq-true_iff}
-use mathlib.Core.List.{List, ◌∷◌, ◌++◌}
-use Prim.Native.Nat.{ℕ, ◌-◌}
+use mathlib.Core.List.{List, ◌∷◌}
+use Prim.Native.Nat.{ℕ}
 use native.Mathlib.Omega.{arith}
-use lib.ListN.{length, get_or, set, take, drop, replicate, length-drop, length-set}
+use lib.ListN.{length, get_or, set, take, drop, length-drop, length-set}
 use lib.Dec.{eqb, ltb}
 use lib.Seq.{get_or-set_other}
 use borrow.Author.Tests.{le-ltb, ne_eqb, eqb-false, not-true}
 use Rattle.numbers.specs.Choice.{first}
 use Rattle.numbers.proofs.Choices.{chosen}
-use Rattle.dictionary.specs.Names.{find, hidden, sought, writable}
+use Rattle.dictionary.specs.Names.{hidden, sought, writable}
 use Rattle.dictionary.proofs.naming.Sought.{still_sought}
 use Rattle.entries.proofs.Configuration.{can_be_written}
 use Rattle.dictionary.specs.Rows.{width}
@@ -29,7 +29,7 @@ use Rattle.entries.specs.declared.types.Verdict.TheVariants as verdict
 use Rattle.roles.specs.Values.{range_of}
 use Rattle.entries.proofs.Start.{valid_at_start}
 use Rattle.sdo.specs.Answers.{size_of, reading, stored, unclear, offered, refused, length_of, writing, obeyed, silent, answer}
-use Rattle.sdo.specs.Frames.{index_in, sub_in, code, reply, name_in, data_in, command_of, read_command, reply_to}
+use Rattle.sdo.specs.Frames.{index_in, sub_in, code, reply, name_in, data_in, command_of, reply_to}
 use Rattle.sdo.specs.declared.types.Abort.TheVariants as abort
 use Rattle.sdo.specs.declared.types.Answer.{Answer}
 use Rattle.sdo.specs.declared.types.Answer.TheVariants.{Silent, Aborted, Value, Written}

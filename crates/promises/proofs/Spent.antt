@@ -15,7 +15,7 @@ use Rattle.controller.specs.Tick.{ticked}
 use Rattle.sending.specs.Sending.{sends, total}
 use Rattle.sending.proofs.Weights.{weight, sends_weight, weight_none, weight_same, weight_step}
 use Rattle.promises.specs.Running.{Event, frame, tick, load, happens, run}
-use Rattle.promises.specs.Restoring.{written_by, writes, FramesAndTicks}
+use Rattle.promises.specs.Restoring.{writes, FramesAndTicks}
 use Rattle.promises.proofs.Forgetting.{front_forgotten}
 use Rattle.promises.proofs.Running.{kept_by_tick}
 use Rattle.promises.proofs.Underway.{front_is}

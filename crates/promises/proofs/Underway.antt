@@ -4,23 +4,17 @@ use mathlib.Core.Path.{◌≡◌, refl, sym, ap, ◌∙◌}
 use mathlib.Core.List.{List, [], ◌∷◌, ◌++◌, map}
 use Prim.Native.Nat.{ℕ, ◌<◌, ◌≤◌}
 use native.Mathlib.Omega.{arith}
-use lib.ListN.{length, get_or, set, take, drop}
+use lib.ListN.{length, get_or, set, take}
 use lib.Seq.{get_or-set_other, get_or-take, ext_get_or, length-take-le}
 use Rattle.dictionary.specs.Names.{configured}
 use Rattle.dictionary.specs.Unit.{unit_size, unticked}
 use Rattle.entries.proofs.Configuration.{can_be_written, in_unit}
-use Rattle.dictionary.proofs.naming.NameLaws as Names
-use Rattle.entries.specs.Valid.{Valid}
 use Rattle.sdo.specs.Answers.{stored, answer}
 use Rattle.sdo.specs.declared.types.Answer.{Answer}
 use Rattle.sdo.specs.declared.types.Answer.TheVariants.{Silent, Aborted, Value, Written}
 use Rattle.sdo.specs.Served.{after}
-use Rattle.records.specs.Layout.{listed}
-use Rattle.records.specs.declared.types.Outcome.TheVariants.{Good}
 use Rattle.image.specs.Loaded.{loaded}
 use Rattle.image.specs.Reading.{reading, configuration_in}
-use Rattle.image.proofs.reading.PlaceLaws as Places
-use Rattle.image.proofs.LoadLaws.{values_length}
 use Rattle.sending.proofs.Underway as Sending
 use Rattle.lists.specs.Changes.{changes, list_of}
 use Rattle.promises.specs.Delivery.{frames_in}

@@ -64,7 +64,7 @@ name_rows unit name above size word =
     (unknown_index name, Aborted abort.NoIndex)
     -- "4 | sub unknown | 06090011h"; (viii) "a sub above the number kept gives 06090011h, in order 4"
     ∷ (unknown_sub name || above, Aborted abort.NoSub)
-    -- "5 | write to a read_only name | 06010002h"
+    -- "5 | write to a read-only name | 06010002h"
     ∷ (write && read_only name, Aborted abort.ReadOnly)
     -- "6 | longer, shorter than the type | 06070012h, 06070013h"
     ∷ (write && ltb own size, Aborted abort.TooLong)

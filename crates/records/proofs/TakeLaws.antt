@@ -3,7 +3,7 @@
 use mathlib.Core.Path.{◌≡◌, refl, sym, ap, ◌∙◌}
 use mathlib.Core.Bool.{Bool, true, false, not, ◌||◌}
 use mathlib.Core.List.{List, [], ◌∷◌}
-use Prim.Native.Nat.{ℕ, zero, suc, ◌+◌, ◌%◌, ◌<◌, ◌≤◌, zero-le}
+use Prim.Native.Nat.{ℕ, ◌+◌, ◌%◌, ◌<◌, ◌≤◌, zero-le}
 use native.Mathlib.Omega.{arith}
 use lib.Dec.{eqb, ltb}
 use lib.ListN.{length, get_or, take, drop}
@@ -25,7 +25,6 @@ use Rattle.records.specs.Layout.{Listed, size}
 use Rattle.records.specs.Rows.{role_at, entry_at, greatest}
 use Rattle.records.specs.Walk.{index_in, sub_in, size_in, data_in, data_there, fits, valued, sized, decoded}
 use Rattle.records.specs.declared.types.Refusal.TheVariants.{EndedEarly, NotNext, WrongSize, OutOfRange}
-use Rattle.records.specs.declared.types.Walked.{Walked}
 use Rattle.records.specs.declared.types.Walked.TheVariants.{Taken, Refused}
 
 -- ---- the parts

@@ -1,6 +1,6 @@
 -- Looking a name up: "The bytes of one record's value are handed on as they stand in the image."
 -- Assumes nothing.
-use Rattle.std.specs.Prelude.{ℕ, zero, suc, ◌+◌, ◌&&◌, List, [], ◌∷◌, eqb, ltb, length, take, drop}
+use Rattle.std.specs.Prelude.{ℕ, zero, suc, ◌+◌, ◌&&◌, List, [], eqb, ltb, length, take, drop}
 use Rattle.octets.specs.Little.{little}
 use Rattle.numbers.specs.Choice.{first}
 use Rattle.records.specs.Walk.{index_in, sub_in, size_in}

@@ -1,6 +1,6 @@
 -- What a number of the code's rows stands for: an index, the first and the last of its subs, and the role of what they hold.
 -- Assumes nothing.
-use Rattle.std.specs.Prelude.{ℕ, zero, suc, ◌+◌, ◌-◌, ◌/◌, ◌%◌, List, [], ◌∷◌, eqb, ltb}
+use Rattle.std.specs.Prelude.{ℕ, zero, suc, ◌-◌, ◌/◌, ◌%◌, List, [], ◌∷◌, eqb, ltb}
 use Rattle.numbers.specs.Choice.{first}
 use Rattle.roles.specs.Roles.{ranged}
 use Rattle.records.specs.Layout.{Listed}

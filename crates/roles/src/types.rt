@@ -1,5 +1,5 @@
 // The neighbour in a chain: none, or the slot that must not be passed, or not even be reached.
-#[derive(Drop)]
+#[derive(Clone, Copy)]
 pub enum Link {
     Free,
     Loose(usize),

@@ -11,7 +11,6 @@ use Rattle.roles.specs.Values.{range_of}
 use Rattle.entries.specs.declared.types.Verdict.{Verdict}
 use Rattle.entries.specs.declared.types.Verdict.TheVariants as verdict
 use Rattle.sdo.specs.Frames.{command_of, index_in, sub_in, data_in}
-use Rattle.sdo.specs.declared.types.Abort.{Abort}
 use Rattle.sdo.specs.declared.types.Abort.TheVariants as abort
 use Rattle.sdo.specs.declared.types.Answer.{Answer}
 use Rattle.sdo.specs.declared.types.Answer.TheVariants.{Silent, Aborted, Value, Written}

@@ -1,7 +1,7 @@
 // What a frame is answered.
 
 // Why a frame is aborted, in the order of the rows.
-#[derive(Drop)]
+#[derive(Clone, Copy)]
 pub enum Abort {
     Command,
     NoIndex,
@@ -18,7 +18,7 @@ pub enum Abort {
     ChainDown,
 }
 
-#[derive(Drop)]
+#[derive(Clone, Copy)]
 pub enum Answer {
     Silent,
     Aborted(Abort),
@@ -29,14 +29,14 @@ pub enum Answer {
 }
 
 // What a write's command tells of its length: so many bytes, or nothing.
-#[derive(Drop)]
+#[derive(Clone, Copy)]
 pub enum Size {
     Told(u8),
     Untold,
 }
 
 // A command byte: a read, a write, or neither.
-#[derive(Drop)]
+#[derive(Clone, Copy)]
 pub enum Command {
     Read,
     Write(Size),

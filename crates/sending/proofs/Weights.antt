@@ -2,7 +2,7 @@
 -- Assumes nothing.
 use mathlib.Core.Path.{◌≡◌, refl, ap, ◌∙◌, fun_ext}
 use mathlib.Core.Bool.{Bool, true, false, not, ◌&&◌}
-use mathlib.Core.List.{List, ◌++◌, reverse}
+use mathlib.Core.List.{List, ◌++◌}
 use Prim.Native.Nat.{ℕ, ◌+◌, ◌-◌, ◌<◌, ◌≤◌}
 use native.Mathlib.Omega.{arith}
 use lib.Dec.{eqb}
@@ -12,7 +12,7 @@ use borrow.Author.Tests.{eqb-false, eq-eqb}
 use Rattle.numbers.specs.Choice.{first}
 use Rattle.numbers.proofs.Choices.{chosen}
 use Rattle.dictionary.specs.Names.{configured, slot_of}
-use Rattle.sending.specs.Sending.{slots_from, stretch, order, picked, differs, grows, rises, falls, sent, sends, total}
+use Rattle.sending.specs.Sending.{slots_from, stretch, order, differs, grows, rises, falls, sent, sends, total}
 use Rattle.sending.proofs.Totals.{total_none, total_least, total_sum, total_append, total_reverse, total_picked, total_stretch, once}
 
 -- ---- the order is a rearrangement of all slots

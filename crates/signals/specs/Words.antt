@@ -16,11 +16,11 @@ kind_of Error = 3
 kind_of Absent = 0
 
 -- an INTEGER16 by its pattern, a REAL32 by its bits; 0 where there is no number, or where the REAL32 is none (NaN, which no block makes)
-unfoldable pub number_of : Signal → ℕ
-number_of (Whole n) = pattern16 n
-number_of (Real x) = first (eq x x) (to_bits binary32 x) 0
-number_of Error = 0
-number_of Absent = 0
+unfoldable pub number_of_signal : Signal → ℕ
+number_of_signal (Whole n) = pattern16 n
+number_of_signal (Real x) = first (eq x x) (to_bits binary32 x) 0
+number_of_signal Error = 0
+number_of_signal Absent = 0
 
 -- a REAL32 from its bits; a pattern that is no number, which row 7 of "Frames" refuses, counts as 0.0
 unfoldable pub real_of : ℕ → Float

@@ -1,6 +1,6 @@
 // A signal as two words keep it: its kind, 0 where it is not available, and its number.
 ghost use Rattle.std.specs.Prelude.{◌≡◌};
-ghost use Rattle.signals.specs.Words.{kind_of, number_of, real_of, of_words};
+ghost use Rattle.signals.specs.Words.{kind_of, number_of_signal, real_of, of_words};
 
 use crate::signal::Signal;
 use numbers::signed::{pattern, signed};
@@ -18,7 +18,7 @@ pub fn kind_of(s: Signal) -> u32
 
 // What is no number is not equal to itself.
 fn bits(x: f32) -> u32
-    ensures { result ≡ number_of (Signal.Real x) }
+    ensures { result ≡ number_of_signal (Signal.Real x) }
 {
     if x == x {
         return f32::to_bits(x);
@@ -27,7 +27,7 @@ fn bits(x: f32) -> u32
 }
 
 pub fn number_of(s: Signal) -> u32
-    ensures { result ≡ number_of s }
+    ensures { result ≡ number_of_signal s }
 {
     match s {
         Signal::Whole(v) => pattern(v),

@@ -1,5 +1,5 @@
 // What passes between all blocks: "a whole number, a REAL32, an error or not available".
-#[derive(Drop)]
+#[derive(Clone, Copy)]
 pub enum Signal {
     Whole(i16),
     Real(f32),

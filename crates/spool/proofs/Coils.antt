@@ -1,7 +1,6 @@
 -- The promises of one tick's interlock: what the tests of the definition tell, and then by cases.
 -- Assumes nothing.
 use mathlib.Core.Bool.{Bool, true, false, not, ◌&&◌, ◌||◌, true≢false}
-use mathlib.Core.List.{List}
 use mathlib.Core.Logic.{◌⊎◌, inl, inr}
 use mathlib.Core.Path.{◌≡◌, refl, sym, ap, ◌∙◌, subst}
 use borrow.Author.Tests.{eqb-true}
@@ -10,7 +9,7 @@ use lib.Signed.{<ℤ_irrefl}
 use Rattle.numbers.specs.Choice.{first}
 use Rattle.numbers.proofs.Orders.{lt_is_below, below_is_lt}
 use Rattle.spool.specs.Interlock.{coil_1, coil_2, asks, rested, waits, loses, sent_1, sent_2, interlocked}
-use Rattle.spool.specs.Coils.{Coil, one, two, other, of, Above0, At0, Loses, Holds, Obeys, EachObeys, OnlyAfter0, NeverBoth}
+use Rattle.spool.specs.Coils.{one, two, other, of, Above0, At0, Loses, Holds, Obeys, EachObeys, OnlyAfter0, NeverBoth}
 
 -- ---- the two tests
 

@@ -1,4 +1,6 @@
 // A lookup table over the words of its three entries, lent by the caller; turns.rt has the six of them in a tick.
+#![tactic(auto)]
+
 pub mod turns;
 
 ghost use Rattle.std.specs.Prelude.{◌≡◌, ◌<◌, get_or};

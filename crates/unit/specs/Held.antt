@@ -3,7 +3,7 @@
 use Rattle.std.specs.Prelude.{ℕ, ◌+◌, ◌-◌, ◌*◌, List, ltb, get_or, set}
 use Rattle.numbers.specs.Choice.{first}
 use Rattle.dictionary.specs.Unit.{signals_at}
-use Rattle.signals.specs.Words.{kind_of, number_of, of_words}
+use Rattle.signals.specs.Words.{kind_of, number_of_signal, of_words}
 use Rattle.signals.specs.declared.signal.Signal.{Signal}
 
 -- The signals stand in one row: inputs 1-4, math 1-4, tables 1-6, logic 1-2. Where each kind begins:
@@ -32,7 +32,7 @@ at_row unit row = of_words (get_or unit (place row) 0) (get_or unit (place row +
 
 unfoldable pub laid : List ℕ → ℕ → Signal → List ℕ
 laid unit row signal =
-    first (ltb row blocks) (set (set unit (place row) (kind_of signal)) (place row + 1) (number_of signal)) unit
+    first (ltb row blocks) (set (set unit (place row) (kind_of signal)) (place row + 1) (number_of_signal signal)) unit
 
 -- the signal of a kind's block n, and the unit with another one there
 unfoldable pub held : List ℕ → ℕ → ℕ → Signal

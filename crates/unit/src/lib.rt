@@ -1,4 +1,6 @@
 // The unit as the blocks of a tick use it: its words by their names, and the signals that it keeps.
+#![tactic(auto)]
+
 pub mod laying;
 pub mod sources;
 pub mod words;

@@ -2,7 +2,7 @@
 -- Assumes nothing.
 use Prim.Native.Nat.{ℕ, ◌<◌, ◌≤◌}
 use mathlib.Core.List.{List}
-use mathlib.Core.Path.{◌≡◌, refl, sym, ap, ◌∙◌}
+use mathlib.Core.Path.{◌≡◌, sym, ap, ◌∙◌}
 use native.Mathlib.Omega.{arith}
 use borrow.Author.Tests.{eq-eqb, ne_eqb, lt-ltb, le-ltb}
 use lib.ListN.{get_or}
@@ -12,7 +12,6 @@ use Rattle.dictionary.specs.Unit.{ticked_at}
 use Rattle.controller.specs.Commands.{rule_for}
 use Rattle.why.specs.Answer.{no_output, no_tick, answered, decider, decided, explained, Explained}
 use Rattle.why.specs.declared.types.Pair.{Pair}
-use Rattle.why.specs.declared.types.Why.{Why}
 use Rattle.why.specs.declared.types.Why.TheVariants.{NoOutput, NoTick, Told}
 
 module _ (unit : List ℕ) (n : ℕ) where

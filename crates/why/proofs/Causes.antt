@@ -1,17 +1,17 @@
 -- Where the error of a block comes from: what is told of it is so.
 -- Assumes nothing.
-use Prim.Native.Nat.{ℕ, ◌+◌, ◌-◌, ◌%◌, ◌<◌, ◌≤◌}
+use Prim.Native.Nat.{ℕ, ◌+◌, ◌-◌, ◌<◌, ◌≤◌}
 use mathlib.Core.Bool.{Bool, true, false}
 use mathlib.Core.List.{List}
 use mathlib.Core.Logic.{◌⊎◌, inl, inr}
 use mathlib.Core.Path.{◌≡◌, refl, sym, ap, ◌∙◌, subst}
 use native.Mathlib.Omega.{arith}
-use borrow.Author.Tests.{ltb-true, ltb-false, lt-ltb, le-ltb}
-use lib.Dec.{eqb, ltb, lit<, lit≤}
+use borrow.Author.Tests.{ltb-true, ltb-false}
+use lib.Dec.{ltb, lit≤}
 use lib.IntN.{ℤ}
 use Rattle.numbers.specs.Choice.{first}
 use Rattle.numbers.proofs.Choices.{chosen}
-use Rattle.signals.specs.Signal.{is_error, as_real}
+use Rattle.signals.specs.Signal.{is_error}
 use Rattle.signals.specs.declared.signal.Signal.{Signal}
 use Rattle.signals.specs.declared.signal.Signal.TheVariants.{Whole, Real, Error, Absent}
 use Rattle.signals.proofs.SignalLaws.{real_error}
@@ -19,18 +19,17 @@ use Rattle.input.specs.Input.{signal_of}
 use Rattle.math.specs.Division.{Divides}
 use Rattle.math.specs.Maths.{operator}
 use Rattle.math.proofs.Divisions.{by_division}
-use Rattle.table.specs.Table.{least, looked_up}
-use Rattle.table.proofs.TableLaws.{least_from, least_to, least_holds, least_before}
+use Rattle.table.specs.Table.{looked_up}
+use Rattle.table.proofs.TableLaws.{least_from, least_holds, least_before}
 use Rattle.unit.specs.Entry.{entry, byte}
-use Rattle.unit.specs.Extent.{extent}
 use Rattle.unit.specs.Held.{inputs, maths, tables, logics, blocks, held, at_row}
 use Rattle.unit.specs.Sources.{sourced}
 use Rattle.controller.specs.Saw.{Saw}
 use Rattle.controller.specs.Shown.{Shown}
-use Rattle.controller.specs.Turns.{seen, operand_seen}
+use Rattle.controller.specs.Turns.{operand_seen}
 use Rattle.why.specs.Answer.{signal}
 use Rattle.why.specs.Explains.{at_sight, in_error, Read, by_math, by_table, by_logic, Began, flagged, divided}
-use Rattle.why.specs.Seen.{block_of, taken_before, saw}
+use Rattle.why.specs.Seen.{saw}
 use Rattle.why.specs.Trail.{pair, math_pair, table_pair, logic_pair, wrong, lowest, math_next, next}
 use Rattle.why.specs.declared.types.End.{End}
 use Rattle.why.specs.declared.types.End.TheVariants.{Flagged, Divided}

@@ -1,18 +1,17 @@
 -- All that is told of an output after a tick is so.
 -- Assumes nothing.
-use Prim.Native.Nat.{ℕ, ◌+◌, ◌%◌, ◌<◌}
+use Prim.Native.Nat.{ℕ, ◌+◌, ◌<◌}
 use mathlib.Core.Bool.{true}
 use mathlib.Core.List.{List}
-use mathlib.Core.Path.{◌≡◌, refl, sym, ap, ◌∙◌}
+use mathlib.Core.Path.{◌≡◌}
 use native.Mathlib.Omega.{arith}
 use lib.IntN.{ℤ}
 use lib.ListN.{length}
-use Rattle.numbers.specs.Choice.{first}
 use Rattle.numbers.specs.Order.{below}
 use Rattle.numbers.proofs.Choices as choices
 use Rattle.dictionary.specs.Unit.{unit_size}
 use Rattle.logic.specs.Logics.{first_that_holds, chosen}
-use Rattle.output.specs.Output.{rule_of, driven}
+use Rattle.output.specs.Output.{driven}
 use Rattle.output.proofs.OutputLaws.{some_rule}
 use Rattle.output.specs.Commanded.{SomeRule}
 use Rattle.output.specs.Outputs.{settings}
@@ -26,9 +25,8 @@ use Rattle.controller.proofs.Numbers.{Rising}
 use Rattle.controller.proofs.Saw as saws
 use Rattle.controller.proofs.Shown.{number_shown, all_shown}
 use Rattle.signals.specs.Signal.{is_error}
-use Rattle.why.specs.Answer.{decider, signal}
-use Rattle.why.specs.Explains.{applies_to, Ruled, Led, Explains}
-use Rattle.why.specs.Seen.{block_of, saw}
+use Rattle.why.specs.Answer.{signal}
+use Rattle.why.specs.Explains.{applies_to, Led, Explains}
 use Rattle.why.specs.Trail.{trail}
 use Rattle.why.specs.Trail as steps
 use Rattle.why.specs.declared.types.Pair.{Pair}

@@ -11,7 +11,7 @@ use lib.ListN.{length}
 use Rattle.numbers.specs.Choice.{first}
 use Rattle.signals.specs.declared.signal.Signal.TheVariants.{Error}
 use Rattle.unit.specs.Held.{blocks, at_row}
-use Rattle.why.specs.Explains.{at_sight, Read, Began, Led, earlier, began, read}
+use Rattle.why.specs.Explains.{at_sight, Led, earlier, began, read}
 use Rattle.why.specs.Seen.{block_of, saw}
 use Rattle.why.specs.Trail.{Trail, next, stepped, follow}
 use Rattle.why.specs.Trail as trail

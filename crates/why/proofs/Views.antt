@@ -13,7 +13,6 @@ use Rattle.numbers.specs.Choice.{first}
 use Rattle.numbers.specs.Signed.{signed16}
 use Rattle.signals.specs.Signal.{is_error}
 use Rattle.signals.specs.Words.{real_of}
-use Rattle.signals.specs.declared.signal.Signal.{Signal}
 use Rattle.signals.specs.declared.signal.Signal.TheVariants.{Whole, Real, Absent}
 use Rattle.dictionary.specs.Names.{slot_of}
 use Rattle.unit.specs.Entry.{entry, whole, real}

@@ -7,7 +7,7 @@ use Rattle.numbers.specs.Choice.{first}
 use Rattle.octets.specs.Little.{bytes}
 use Rattle.dictionary.specs.Unit.{ticked_at}
 use Rattle.signals.specs.Signal.{is_error}
-use Rattle.signals.specs.Words.{kind_of, number_of}
+use Rattle.signals.specs.Words.{kind_of, number_of_signal}
 use Rattle.signals.specs.declared.signal.Signal.{Signal}
 use Rattle.signals.specs.declared.signal.Signal.TheVariants.{Whole, Real, Error, Absent}
 use Rattle.unit.specs.Sources.{sourced}
@@ -57,8 +57,8 @@ extended word = first (ltb word 0x8000) word (word % 0x10000 + 0xFFFF_0000)
 
 -- a signal's value: "a whole number sign-extended, a REAL32 by its bits, else 0"
 unfoldable pub value : Signal → ℕ
-value (Whole v) = extended (number_of (Whole v))
-value (Real x) = number_of (Real x)
+value (Whole v) = extended (number_of_signal (Whole v))
+value (Real x) = number_of_signal (Real x)
 value Error = 0
 value Absent = 0
 

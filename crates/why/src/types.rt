@@ -4,14 +4,14 @@
 pub const TRAIL: usize = 43;
 
 // A source and a number, as they stand in the entries.
-#[derive(Drop)]
+#[derive(Clone, Copy)]
 pub struct Pair {
     pub source: u8,
     pub number: u8,
 }
 
 // How a trail ends: with a flagged input, with a division by zero, with a signal taken from the last tick.
-#[derive(Drop)]
+#[derive(Clone, Copy)]
 pub enum End {
     Flagged,
     Divided,
@@ -19,21 +19,21 @@ pub enum End {
 }
 
 // Where a block's error comes from.
-#[derive(Drop)]
+#[derive(Clone, Copy)]
 pub enum Next {
     Ends(End),
     Reads(Pair),
 }
 
 // The number of steps of a trail, and the number of its end.
-#[derive(Drop)]
+#[derive(Clone, Copy)]
 pub struct Walked {
     pub count: u8,
     pub end: u8,
 }
 
 // The rule that gave the command, or why none is told.
-#[derive(Drop)]
+#[derive(Clone, Copy)]
 pub enum Why {
     NoOutput,
     NoTick,

@@ -1,21 +1,19 @@
 -- The chains of a configuration, by the places of its entries in an image.
 -- Assumes nothing.
 use mathlib.Core.Path.{◌≡◌, refl, sym, ap, subst, ◌∙◌}
-use mathlib.Core.Bool.{Bool, true, false, not, ◌&&◌, and-eq-true_iff}
-use mathlib.Core.List.{List, [], ◌∷◌, ◌++◌, map, flat_map}
-use Prim.Native.Nat.{ℕ, zero, suc, ◌+◌, ◌-◌, ◌<◌, ◌≤◌}
+use mathlib.Core.Bool.{Bool, true, false, ◌&&◌, and-eq-true_iff}
+use mathlib.Core.List.{List, [], ◌∷◌, map}
+use Prim.Native.Nat.{ℕ, zero, suc, ◌+◌, ◌<◌, ◌≤◌}
 use native.Mathlib.Nat.{le_of_suc-le-suc, not-suc-le-zero}
 use native.Mathlib.Omega.{arith}
 use lib.Dec.{ltb, eqb}
-use lib.ListN.{length, get_or, take, drop}
+use lib.ListN.{length, get_or, drop}
 use lib.Seq.{drop-drop}
 use borrow.Author.Tests.{lt-ltb, le-ltb, ltb-true, eqb-true}
-use Rattle.octets.specs.Little.{little}
 use Rattle.numbers.specs.Choice.{first, every}
-use Rattle.numbers.specs.Signed.{signed16}
 use Rattle.dictionary.specs.Rows.{width}
-use Rattle.roles.specs.Chains.{Neighbours, chains}
-use Rattle.roles.proofs.RoleLaws.{run, runs, chains_run}
+use Rattle.roles.specs.Chains.{Neighbours}
+use Rattle.roles.proofs.RoleLaws.{runs, chains_run}
 use Rattle.entries.specs.Judge.{held}
 use Rattle.records.specs.Layout.{Listed, listed, size, entry, offset}
 use Rattle.records.specs.Walk.{data_in, values, taken_in}
@@ -28,7 +26,7 @@ use Rattle.records.specs.declared.types.Walked.TheVariants as walked
 use Rattle.records.specs.declared.types.Walked.TheVariants.{Taken}
 use Rattle.records.specs.declared.types.Refusal.{Refusal}
 use Rattle.records.specs.declared.types.Outcome.TheVariants.{Good, Refused}
-use Rattle.image.specs.Places.{Pair, number_at, rising, rises, run_from, run_of}
+use Rattle.image.specs.Places.{Pair, number_at, rising, rises}
 use Rattle.image.specs.Reading.{in_place, in_order, configuration_in, finished, reading}
 
 pub value_at : (es : List Listed) (rest : List ℕ) (slot : ℕ) → slot < length es

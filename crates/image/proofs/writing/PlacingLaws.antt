@@ -11,7 +11,7 @@ use Rattle.octets.specs.Little.{bytes}
 use Rattle.octets.proofs.little.ByteLaws.{bytes_length}
 use Rattle.octets.proofs.little.Parts.{sets_append}
 use Rattle.records.specs.Layout.{Listed, size, record_of, records, extent}
-use Rattle.records.proofs.SizeLaws.{record_length, records_length}
+use Rattle.records.proofs.SizeLaws.{records_length}
 use Rattle.records.specs.Rows.{row_of, row_from, entry_at}
 use Rattle.image.specs.declared.writing.types.Front.{Front}
 use Rattle.image.specs.Placing.{Room, Placed}

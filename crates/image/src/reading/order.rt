@@ -10,7 +10,7 @@ use octets::little::two;
 
 // Where the data of the first lower entry stands, where that of the first upper one, how many pairs, each nine bytes behind the
 // one before, and whether the upper one must be greater.
-#[derive(Drop)]
+#[derive(Clone, Copy)]
 pub struct Run {
     pub lower: u16,
     pub upper: u16,

@@ -1,8 +1,8 @@
 -- The records of an accepted image, each at its place.
 -- Assumes nothing.
-use mathlib.Core.Path.{◌≡◌, refl, sym, ap, subst, ◌∙◌}
+use mathlib.Core.Path.{◌≡◌, sym, ap, subst, ◌∙◌}
 use mathlib.Core.List.{List, [], ◌∷◌}
-use Prim.Native.Nat.{ℕ, zero, suc, ◌+◌, ◌<◌, ◌≤◌}
+use Prim.Native.Nat.{ℕ, zero, suc, ◌+◌, ◌<◌}
 use native.Mathlib.Nat.{le_of_suc-le-suc, not-suc-le-zero}
 use native.Mathlib.Omega.{arith}
 use lib.ListN.{length, get_or, take, drop, length-drop}
@@ -11,12 +11,12 @@ use Rattle.dictionary.specs.Rows.{width}
 use Rattle.dictionary.specs.declared.types.Kind.{Kind}
 use Rattle.dictionary.specs.declared.types.Kind.TheVariants.{Unsigned8, Integer16, Unsigned16, Real32, Unsigned32}
 use Rattle.records.specs.Layout.{Listed, listed, size, entry, offset, record_in}
-use Rattle.records.specs.Walk.{size_in, data_in}
+use Rattle.records.specs.Walk.{size_in}
 use Rattle.records.specs.declared.types.Outcome.TheVariants.{Good}
 use Rattle.records.proofs.RightLaws.{Right}
 use Rattle.roles.proofs.widths.WidthLaws.{at_most_four}
 use Rattle.image.specs.Reading.{reading, configuration_in}
-use Rattle.image.proofs.reading.Acceptance.{Accepted, accepted}
+use Rattle.image.proofs.reading.Acceptance.{accepted}
 use Rattle.image.proofs.reading.PlaceLaws.{counted, value_at, right_at}
 use Rattle.lists.specs.Changes.{place_of}
 use Rattle.lists.specs.Noting.{Stands, record_from, word_from}

@@ -6,7 +6,7 @@ use records::types::Refusal;
 pub const NOTES: usize = EC_VALUE + EC_VALUE;
 
 // The places of the records to send: the notes from one on to before another; and how many bytes their list has.
-#[derive(Drop)]
+#[derive(Clone, Copy)]
 pub struct Noted {
     pub low: usize,
     pub high: usize,
@@ -14,7 +14,7 @@ pub struct Noted {
 }
 
 // Or which image is refused, and why.
-#[derive(Drop)]
+#[derive(Clone, Copy)]
 pub enum Found {
     Places(Noted),
     Current(Refusal),

@@ -41,7 +41,7 @@ minus_size (negsuc n) e = +ℤ_idl (pos (suc n))
 
 module _ (v : ℤ) (f : SFits w16 v) where
   pub wide : to_z w32 (of_z w32 (to_z w16 (of_z w16 v))) ≡ v
-  wide = rw (to_z-of_z f) (to_z-of_z (sfits_widen tt f))
+  wide = rw (to_z-of_z f) (to_z-of_z {w = w32} (sfits_widen {w = w16} {w' = w32} {z = v} (tt {0}) f))
 
   pub turned_fits : SFits w32 (pos (nat_abs v))
   turned_fits = record { sfits = omega (arith, size_small v f) }

@@ -4,13 +4,13 @@ ghost use Rattle.printer.specs.Steps.{size_read, number_read};
 
 use numbers::signed::signed;
 
-#[derive(Drop)]
+#[derive(Clone, Copy)]
 pub enum Size {
     Is(u32),
     Bad,
 }
 
-#[derive(Drop)]
+#[derive(Clone, Copy)]
 pub enum Number {
     Is(i16),
     Bad,

@@ -4,7 +4,7 @@ ghost use Rattle.printer.specs.Steps.{span, following, next_of};
 
 use crate::reading::decimal::{Number, read_number};
 
-#[derive(Drop)]
+#[derive(Clone, Copy)]
 pub enum Field {
     Is(i16, usize),
     Bad,

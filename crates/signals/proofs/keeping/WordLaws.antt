@@ -1,19 +1,19 @@
 -- What two words keep of a signal: it is read back as it was laid down.
 -- Assumes nothing.
 use Prim.Native.Nat.{ℕ, suc, ◌-◌, ◌*◌, ◌%◌, ◌<◌}
-use mathlib.Core.Bool.{Bool, true, false, not}
-use mathlib.Core.Path.{◌≡◌, refl, sym, ap, ◌∙◌}
+use mathlib.Core.Bool.{true, false}
+use mathlib.Core.Path.{◌≡◌, refl, ap}
 use native.Mathlib.Omega.{arith}
 use borrow.Author.Tests.{lt-ltb, le-ltb, eq-eqb}
 use lib.Dec.{T}
 use lib.IntN.{ℤ, pos, negsuc}
-use lib.Ieee.{Float, nan, inf, fin, binary32, fits, eq, is_nan, nan_bits, to_bits, of_bits, up, down}
+use lib.Ieee.{Float, nan, inf, fin, binary32, fits, eq, is_nan, to_bits, up, down}
 use lib.Ieee.Bits.{of_bits-to_bits, nan_bits_is}
 use mir.Syntax.{w16}
 use mir.Val.{SFits}
 use Rattle.numbers.specs.Choice.{first}
 use Rattle.numbers.specs.Signed.{twos, signed16, pattern16}
-use Rattle.signals.specs.Words.{kind_of, number_of, real_of, of_words}
+use Rattle.signals.specs.Words.{kind_of, number_of_signal, real_of, of_words}
 use Rattle.signals.specs.declared.signal.Signal.{Signal}
 use Rattle.signals.specs.declared.signal.Signal.TheVariants.{Whole, Real, Error, Absent}
 
@@ -51,8 +51,8 @@ real_read x f e =
     let back = of_bits-to_bits binary32 x f in
     rw (itself x e, nan_bits_is binary32 (to_bits binary32 x), back, e)
 
-pub read_back : (s : Signal) → Kept s → of_words (kind_of s) (number_of s) ≡ s
-unfolding of_words kind_of number_of first
+pub read_back : (s : Signal) → Kept s → of_words (kind_of s) (number_of_signal s) ≡ s
+unfolding of_words kind_of number_of_signal first
 read_back (Whole v) (whole f) = ap Whole (pattern_read v f)
 read_back (Real x) (real f e) = ap Real (real_read x f e)
 read_back Error error = refl

@@ -1,0 +1,45 @@
+-- `objects::inputs` meets its contract: each arm has its row, and the arms are all rows that begin so (`Families`).
+-- Assumes nothing.
+use mathlib.Core.Path.{refl}
+use native.Mathlib.Omega.{arith}
+use Rattle.numbers.specs.Choice.{first}
+use Rattle.dictionary.specs.Names.{stretches, with_index}
+use Rattle.dictionary.specs.Objects.{meant}
+use Rattle.dictionary.proofs.objects.Families.{here, no_row, with_part, last_digits}
+use Rattle.dictionary.proofs.objects.inputs.Goals as goal
+
+pub returns-in-32 : goal.returns-in-32
+unfolding stretches with_index meant first
+returns-in-32 c = here 0x7100 c.in-32.is refl
+
+pub returns-in-33 : goal.returns-in-33
+unfolding stretches with_index meant first
+returns-in-33 c = here 0x7100 c.in-33.is refl
+
+pub returns-in-34 : goal.returns-in-34
+unfolding stretches with_index meant first
+returns-in-34 c = here 0x7100 c.in-34.is refl
+
+pub returns-in-35 : goal.returns-in-35
+unfolding stretches with_index meant first
+returns-in-35 c = here 0x7100 c.in-35.is refl
+
+pub returns-in-72 : goal.returns-in-72
+unfolding stretches with_index meant first
+returns-in-72 c = here 0x7100 c.in-72.is refl
+
+pub returns-in-73 : goal.returns-in-73
+unfolding stretches with_index meant first
+returns-in-73 c = here 0x7100 c.in-73.is refl
+
+pub returns-in-0 : goal.returns-in-0
+unfolding stretches with_index meant first
+returns-in-0 c = here 0x7100 c.in-0.is refl
+
+pub returns-in-48 : goal.returns-in-48
+unfolding stretches with_index meant first
+returns-in-48 c = here 0x7100 c.in-48.is refl
+
+pub returns-in_default : goal.returns-in_default
+unfolding stretches with_part last_digits first
+returns-in_default c = no_row 0x71 _ (omega arith) c.in_default.in_default-own.rest

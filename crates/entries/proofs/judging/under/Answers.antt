@@ -1,0 +1,20 @@
+-- `judging::under` meets its contract: what the parts find joins to the judgement (`JudgeLaws`).
+-- Assumes nothing.
+use borrow.Author.Rules.{sfits_of}
+use Rattle.entries.proofs.judging.JudgeLaws.{down_loose, down_strict}
+use Rattle.entries.specs.Judge.{past_lower}
+use Rattle.entries.proofs.judging.under.Goals as goal
+
+pub returns-in-Free : goal.returns-in-Free
+unfolding past_lower
+returns-in-Free c = rw c.in-Free.is
+
+pub returns-in-Loose : goal.returns-in-Loose
+returns-in-Loose c =
+    let link = c in
+    down_loose _ _ _ _ _ _ c.fetch.ensures c.signed.ensures (sfits_of c.signed.type_inv) link.ranges.v link.in-Loose.is
+
+pub returns-in-Strict : goal.returns-in-Strict
+returns-in-Strict c =
+    let link = c in
+    down_strict _ _ _ _ _ _ c.fetch-in-Strict.ensures c.signed-in-Strict.ensures (sfits_of c.signed-in-Strict.type_inv) link.ranges.v link.in-Strict.is

@@ -1,0 +1,20 @@
+-- Each command from its slot.
+-- Assumes nothing.
+use mathlib.Core.Path.{refl}
+use Rattle.numbers.proofs.ExactLaws.{back}
+use Rattle.unit.proofs.Slots.{has}
+use Rattle.firmware.proofs.Published.{four_commands}
+use Rattle.firmware.proofs.valve_commands.Goals as goal
+
+pub returns : goal.returns
+unfolding has
+returns c =
+    let fourth = c in
+    let third = fourth in
+    let second = third in
+    let first = second in
+    four_commands _ refl
+    (back first.whole_at-one.type_inv first.whole_at-one.ensures)
+    (back second.whole_at-two.type_inv second.whole_at-two.ensures)
+    (back third.whole_at-three.type_inv third.whole_at-three.ensures)
+    (back fourth.whole_at-four.type_inv fourth.whole_at-four.ensures)

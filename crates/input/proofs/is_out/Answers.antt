@@ -1,0 +1,28 @@
+-- With detect on the span decides, read through the calls that widen its ends.
+use mir.Syntax.{w16}
+use mir.Val.{SFits}
+use Rattle.numbers.specs.Choice.{first}
+use Rattle.input.specs.Input.{out}
+use Rattle.numbers.proofs.ExactLaws.{wide_is}
+use borrow.Author.Rules.{rules}
+use Rattle.input.proofs.is_out.Goals as goal
+
+pub returns-then-s : goal.returns-then-s
+unfolding out first
+returns-then-s c =
+    let w = c in
+    let a = w.args in
+    let f : SFits w16 a.s.start = search rules in
+    let g : SFits w16 a.s.end = search rules in
+    let h : SFits w16 a.sample = search rules in
+    rw (
+      c.is_within.ensures,
+      w.if-s.true,
+      wide_is f w.wide.ensures,
+      wide_is h w.wide-then-s.ensures,
+      wide_is g w.wide-then-s-2.ensures,
+    )
+
+pub returns : goal.returns
+unfolding out first
+returns c = rw c.if-s.false

@@ -1,0 +1,25 @@
+-- `tens`: each arm knows the digits.
+-- Assumes nothing.
+use borrow.Author.Tests.{ne_eqb}
+use Rattle.numbers.specs.Choice.{first}
+use Rattle.logic.specs.Digits.{tens}
+use Rattle.logic.proofs.digits.tens.Goals as goal
+
+pub returns-in-0 : goal.returns-in-0
+unfolding tens first
+returns-in-0 c = rw c.in-0.is
+
+pub returns-in-1 : goal.returns-in-1
+unfolding tens first
+returns-in-1 c = rw c.in-1.is
+
+pub returns-in-2 : goal.returns-in-2
+unfolding tens first
+returns-in-2 c = rw c.in-2.is
+
+pub returns-in_default : goal.returns-in_default
+unfolding tens first
+returns-in_default c =
+    let other = c.in_default.in_default-own.rest in
+    let n = c.args.digits in
+    rw (ne_eqb n 0 other.0.0.1, ne_eqb n 1 other.0.1, ne_eqb n 2 other.1)

@@ -1,0 +1,6 @@
+-- By the contracts of the two.
+-- Assumes nothing.
+use Rattle.logic.proofs.turns.counts_at.Goals as goal
+
+pub returns : goal.returns
+returns c = rw (c.does_count.ensures, c.condition_at.ensures)

@@ -1,0 +1,17 @@
+-- `scale`: the limit's contract, and each whole number read back from its bits.
+-- Assumes nothing.
+use mathlib.Core.Path.{◌≡◌}
+use borrow.Author.Rules.{rules}
+use mir.Syntax.{w16}
+use mir.Val.{to_z, of_z}
+use Rattle.math.specs.Math.{scaled}
+use Rattle.math.proofs.folding.scale.Goals as goal
+
+pub returns : goal.returns
+unfolding scaled
+returns c =
+    let fold = c.args.fold in
+    let from : to_z w16 (of_z w16 fold.from) ≡ fold.from = search rules in
+    let to : to_z w16 (of_z w16 fold.to) ≡ fold.to = search rules in
+    let gain : to_z w16 (of_z w16 fold.gain) ≡ fold.gain = search rules in
+    simp (c.limit_real-part.ensures, from, to, gain)

@@ -1,0 +1,30 @@
+-- Each part by the slot of its name.
+-- Assumes nothing.
+use mathlib.Core.Path.{refl}
+use native.Mathlib.Omega.{arith}
+use Rattle.numbers.proofs.ExactLaws.{back}
+use Rattle.unit.proofs.Slots.{have, math_array}
+use Rattle.unit.specs.Entry.{whole, byte}
+use Rattle.math.specs.Maths.{operand}
+use Rattle.math.proofs.turns.operand.Goals as goal
+
+pub returns : goal.returns
+unfolding operand whole byte have
+returns c =
+    let s = c in
+    let k = s.args.k in
+    let i = s.args.i in
+    rw (
+      math_array 0x4000 refl k (omega arith) i (omega arith),
+      math_array 0x4001 refl k (omega arith) i (omega arith),
+      math_array 0x4020 refl k (omega arith) i (omega arith),
+      math_array 0x4022 refl k (omega arith) i (omega arith),
+      math_array 0x4040 refl k (omega arith) i (omega arith),
+      c.as_real.ensures,
+      c.look_up.ensures,
+      c.byte_at.ensures,
+      c.byte_at-2.ensures,
+      back c.whole_at.type_inv c.whole_at.ensures,
+      back c.whole_at-2.type_inv c.whole_at-2.ensures,
+      back c.whole_at-3.type_inv c.whole_at-3.ensures,
+    )

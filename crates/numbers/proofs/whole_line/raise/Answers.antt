@@ -1,0 +1,48 @@
+-- An INTEGER16 counted from -32768: nothing wraps on the way, and what comes out is below 65536.
+-- Assumes nothing.
+use Prim.Native.Nat.{ℕ, suc, ◌+◌, ◌-◌, ◌<◌}
+use mathlib.Core.Path.{◌≡◌, refl}
+use native.Mathlib.Omega.{arith}
+use borrow.Author.Tests.{le-ltb}
+use lib.IntN.{ℤ, pos, negsuc, ◌+ℤ◌}
+use mir.Syntax.{w16, w32}
+use mir.Val.{SFits, to_z, of_z}
+use mir.Facts.{to_z-of_z, sfits_widen}
+use Rattle.numbers.proofs.whole_line.raise.Goals as goal
+
+count : ℤ → ℕ
+count (pos k) = k + 32768
+count (negsuc k) = 32768 - suc k
+
+counted : (v : ℤ) → SFits w16 v → v +ℤ pos 32768 ≡ pos (count v)
+unfolding count
+counted (pos k) f = refl
+counted (negsuc k) f = let h : k < 32768 = f.sfits in rw (le-ltb 32768 (suc k) (omega arith))
+
+small : (v : ℤ) → SFits w16 v → count v < 65536
+unfolding count
+small (pos k) f = let h : k < 32768 = f.sfits in omega arith
+small (negsuc k) f = let h : k < 32768 = f.sfits in omega arith
+
+module _ (v : ℤ) (f : SFits w16 v) where
+  wide : to_z w32 (of_z w32 (to_z w16 (of_z w16 v))) ≡ v
+  wide = rw (to_z-of_z f) (to_z-of_z {w = w32} (sfits_widen {w = w16} {w' = w32} {z = v} (tt {0}) f))
+
+  room : SFits w32 (pos (count v))
+  room = let h = small v f in record { sfits = omega arith }
+
+pub overflow_cast-result : goal.overflow_cast-result
+overflow_cast-result c = rw (to_z-of_z c.ranges.v) (sfits_widen tt c.ranges.v)
+
+pub overflow_add-result : goal.overflow_add-result
+overflow_add-result c = rw (wide c.args.v c.ranges.v, counted c.args.v c.ranges.v) (room c.args.v c.ranges.v)
+
+pub overflow_cast-result-2 : goal.overflow_cast-result-2
+overflow_cast-result-2 c =
+    let h = small c.args.v c.ranges.v in
+    rw (wide c.args.v c.ranges.v, counted c.args.v c.ranges.v, to_z-of_z (room c.args.v c.ranges.v)) (tt, record { fits = omega arith })
+
+pub returns : goal.returns
+returns c =
+    let h = small c.args.v c.ranges.v in
+    rw (wide c.args.v c.ranges.v, counted c.args.v c.ranges.v, to_z-of_z (room c.args.v c.ranges.v)) (refl, omega arith)

@@ -1,0 +1,13 @@
+-- The outputs before k are done: the unit is theirs.
+-- Assumes nothing.
+use Prim.Native.Nat.{◌-◌, ◌≤◌}
+use mathlib.Core.Path.{◌≡◌}
+use Rattle.unit.specs.Each.{each}
+use Rattle.output.specs.Outputs.{output_turn}
+use Rattle.output.proofs.turns.outputs.Given as goal
+
+abbrev pub invariant-loop-k : goal.invariant-loop-k
+invariant-loop-k l = (l.k ≤ 4) × (l.unit ≡ each l.k output_turn l.initial.unit)
+
+abbrev pub decreases-loop-k : goal.decreases-loop-k
+decreases-loop-k l = 4 - l.k

@@ -1,0 +1,31 @@
+-- `frames::deciding::read` meets its contract: each return is the row that its tests choose (`AnswerLaws`).
+-- Assumes nothing.
+use borrow.Author.Rules.{rules}
+use Rattle.dictionary.specs.Unit.{unit_size}
+use Rattle.sdo.specs.Answers.{reading, size_of}
+use Rattle.sdo.proofs.AnswerLaws.{in_unit}
+use Rattle.sdo.proofs.deciding.read.Goals as goal
+
+pub offset_bounds-unit-slot : goal.offset_bounds-unit-slot
+unfolding unit_size
+offset_bounds-unit-slot c = let h = in_unit c.requires c.in-At.is in search rules
+
+pub bounds-unit-slot : goal.bounds-unit-slot
+unfolding unit_size
+bounds-unit-slot c = let h = in_unit c.requires c.in-At.is in search rules
+
+pub returns-in-NoIndex : goal.returns-in-NoIndex
+unfolding reading
+returns-in-NoIndex c = rw c.in-NoIndex.is
+
+pub returns-in-NoSub : goal.returns-in-NoSub
+unfolding reading
+returns-in-NoSub c = rw c.in-NoSub.is
+
+pub returns-in-Count : goal.returns-in-Count
+unfolding reading
+returns-in-Count c = rw c.in-Count.is
+
+pub returns-in-At : goal.returns-in-At
+unfolding reading size_of
+returns-in-At c = rw (c.in-At.is, c.width.ensures)

@@ -1,0 +1,24 @@
+-- Each part by the slot of its name.
+-- Assumes nothing.
+use mathlib.Core.Path.{refl}
+use native.Mathlib.Omega.{arith}
+use Rattle.unit.proofs.Slots.{have, table_var, table_array}
+use Rattle.unit.specs.Entry.{byte}
+use Rattle.table.specs.Tables.{eleven, table_signal}
+use Rattle.table.proofs.turns.signal_of.Goals as goal
+
+pub returns : goal.returns
+unfolding table_signal eleven byte have
+returns c =
+    let k = c.args.k in
+    rw (
+      table_var 0x3000 refl k (omega arith),
+      table_var 0x3001 refl k (omega arith),
+      table_array 0x3004 refl k (omega arith),
+      table_array 0x3005 refl k (omega arith),
+      table_array 0x3006 refl k (omega arith),
+      c.curve.ensures,
+      c.look_up-signal.ensures,
+      c.byte_at-2.ensures,
+      c.byte_at.ensures,
+    )

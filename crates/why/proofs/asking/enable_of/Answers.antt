@@ -1,0 +1,13 @@
+-- Both entries by their slots.
+-- Assumes nothing.
+use mathlib.Core.Path.{refl}
+use native.Mathlib.Omega.{arith}
+use Rattle.unit.proofs.Slots.{has, array}
+use Rattle.unit.specs.Entry.{byte}
+use Rattle.why.specs.Trail.{pair}
+use Rattle.why.proofs.asking.enable_of.Goals as goal
+
+pub returns : goal.returns
+unfolding pair byte has
+returns c = let k = c.args.k in
+    rw (array 0x2350 refl k (omega arith), array 0x2351 refl k (omega arith)) c.pair_at.ensures
