@@ -9,10 +9,9 @@ use lib.Dec.{ltb}
 use lib.ListN.{length, get_or, take, drop, length-append, length-drop, take-append-drop}
 use lib.Seq.{take_all, length-take-le}
 use borrow.Author.Tests.{lt-ltb, le-ltb, ltb-true, ltb-false}
-use Rattle.octets.specs.Little.{little}
 use Rattle.numbers.specs.Choice.{first}
 use Rattle.records.specs.Layout.{Listed, listed, size, extent}
-use Rattle.records.specs.Walk.{index_in, sub_in, size_in, data_in, valued, sized, decoded, behind, and_then, walked, taken_in}
+use Rattle.records.specs.Walk.{index_in, sub_in, size_in, data_in, valued, sized, decoded, and_then, walked, taken_in}
 use Rattle.records.specs.declared.types.Walked.{Walked}
 use Rattle.records.specs.declared.types.Walked.TheVariants.{Taken, Refused}
 use Rattle.records.proofs.SizeLaws.{listed_extent}

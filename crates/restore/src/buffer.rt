@@ -1,4 +1,6 @@
 // Bytes that are put together piece by piece: each function says where the next piece goes.
+use std::fmt;
+use std::fmt::Write;
 
 // Room for an image and for one byte more, which tells that a file is too long; room enough for a path, a line and a list too.
 pub const ROOM: usize = 5208;
@@ -24,16 +26,42 @@ pub fn put(buffer: &mut Buffer, at: usize, piece: &[u8]) -> usize {
     end
 }
 
-pub fn put_decimal(buffer: &mut Buffer, at: usize, number: u64) -> usize {
-    let mut digits = [0u8; 20];
-    let n = io::decimal(number, &mut digits);
-    put(buffer, at, &digits[..n])
+// A buffer for what is printed, which goes on where `end` says.
+#[derive(Drop)]
+struct Page<'a> {
+    buffer: &'a mut Buffer,
+    end: usize,
 }
 
+impl fmt::Write for Page<'_> {
+    fn write_str(&mut self, text: &str) -> fmt::Result {
+        self.end = put(self.buffer, self.end, text.as_bytes());
+        Ok(())
+    }
+}
+
+pub fn put_shown<D: fmt::Display>(buffer: &mut Buffer, at: usize, shown: &D) -> usize {
+    let mut page = Page { buffer, end: at };
+    let _ = write!(page, "{shown}");
+    page.end
+}
+
+pub fn put_decimal(buffer: &mut Buffer, at: usize, number: u64) -> usize {
+    put_shown(buffer, at, &number)
+}
+
+// Four digits, or more where the number needs them.
 pub fn put_hex(buffer: &mut Buffer, at: usize, number: u64) -> usize {
-    let mut digits = [0u8; 16];
-    let n = io::hex(number, 4, &mut digits);
-    put(buffer, at, &digits[..n])
+    let mut page = Page { buffer, end: at };
+    let _ = write!(page, "{number:04x}");
+    page.end
+}
+
+// Five digits, or more where the number needs them.
+pub fn put_key(buffer: &mut Buffer, at: usize, number: u32) -> usize {
+    let mut page = Page { buffer, end: at };
+    let _ = write!(page, "{number:05x}");
+    page.end
 }
 
 fn part(bytes: &[u8], end: usize) -> &[u8] {

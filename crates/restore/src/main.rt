@@ -1,5 +1,7 @@
 // The yard's command: two image files in, a restore list out; or a line for each entry that differs. The last line on standard output is
-// `done` if all went well, and only then: the starter reads it, since a program has no status of its own.
+// `done` if all went well, and only then: the starter reads it, since the status is 0 either way.
+#![tactic(auto)]
+
 mod buffer;
 mod files;
 mod real;
@@ -11,14 +13,14 @@ ghost use Rattle.std.specs.Prelude.{◌≡◌};
 ghost use Rattle.records.specs.Walk.{number};
 
 use buffer::{Buffer, ROOM, front, put, put_decimal};
-use files::{fetch, keep};
-use libc::{STDERR_FILENO, STDOUT_FILENO};
+use files::{argument, fetch, keep};
 use lists::make_list;
 use lists::types::Made;
 use octets::little::four_at;
 use records::types::Refusal;
 use rows::{put_row, row_of};
 use showing::show;
+use std::env::{Env, FillError};
 
 // The paper's number.
 fn number_of(why: Refusal) -> u8
@@ -52,7 +54,7 @@ fn put_reason(line: &mut Buffer, at: usize, why: Refusal) -> usize {
     put_row(line, at, row, 2, 0, 0)
 }
 
-fn refuse(what: &[u8], why: Refusal) {
+fn refuse(rt: &impl Print, what: &[u8], why: Refusal) {
     let mut line = [0u8; ROOM];
     let mut at = put(&mut line, 0, what);
     at = put(&mut line, at, b" refused, ");
@@ -60,52 +62,50 @@ fn refuse(what: &[u8], why: Refusal) {
     at = put(&mut line, at, b": ");
     at = put_reason(&mut line, at, why);
     at = put(&mut line, at, b"\n");
-    io::write_all(STDOUT_FILENO, front(&line, at));
+    let _ = rt.write_all(front(&line, at));
 }
 
-fn count(list: &[u8]) -> bool {
+fn count(rt: &impl Print, list: &[u8]) -> bool {
     let mut line = [0u8; ROOM];
     let mut at = put_decimal(&mut line, 0, four_at(list, 0) as u64);
     at = put(&mut line, at, b" records, ");
     at = put_decimal(&mut line, at, list.len() as u64);
     at = put(&mut line, at, b" bytes\n");
-    io::write_all(STDOUT_FILENO, front(&line, at))
+    rt.write_all(front(&line, at)).is_ok()
 }
 
 // Whether all was done that is asked for.
-fn use_list(current: &[u8], list: &[u8], shown: bool) -> bool {
+fn use_list(rt: &HostRuntime, current: &[u8], list: &[u8], shown: bool) -> bool {
     if shown {
-        return show(current, list);
+        return show(rt, current, list);
     }
-    keep(3, list) && count(list)
+    keep(rt, 3, list) && count(rt, list)
 }
 
-fn restore(current: &[u8], wanted: &[u8], shown: bool) {
+fn restore(rt: &HostRuntime, current: &[u8], wanted: &[u8], shown: bool) {
     let mut list = [0u8; ROOM];
     match make_list(current, wanted, &mut list) {
         Made::Done(long) => {
-            if use_list(current, front(&list, long), shown) {
-                io::write_all(STDOUT_FILENO, b"done\n");
+            if use_list(rt, current, front(&list, long), shown) {
+                let _ = rt.write_all(b"done\n");
             }
         }
-        Made::Current(why) => refuse(b"current image", why),
-        Made::Wanted(why) => refuse(b"wanted image", why),
-        Made::NoRoom => refuse(b"list", Refusal::NoRoom),
+        Made::Current(why) => refuse(rt, b"current image", why),
+        Made::Wanted(why) => refuse(rt, b"wanted image", why),
+        Made::NoRoom => refuse(rt, b"list", Refusal::NoRoom),
     }
 }
 
-fn restore_files(first: usize, second: usize, shown: bool) {
+fn restore_files(rt: &HostRuntime, first: usize, second: usize, shown: bool) {
     let mut current = [0u8; ROOM];
     let mut wanted = [0u8; ROOM];
-    let a = fetch(first, &mut current);
-    if !a.good {
+    let Some(a) = fetch(rt, first, &mut current) else {
         return;
-    }
-    let b = fetch(second, &mut wanted);
-    if !b.good {
+    };
+    let Some(b) = fetch(rt, second, &mut wanted) else {
         return;
-    }
-    restore(front(&current, a.length), front(&wanted, b.length), shown);
+    };
+    restore(rt, front(&current, a), front(&wanted, b), shown);
 }
 
 fn is_same(a: &[u8], b: &[u8]) -> bool {
@@ -122,19 +122,31 @@ fn is_same(a: &[u8], b: &[u8]) -> bool {
     true
 }
 
-fn main() {
-    if os::arg_count() != 4 {
-        io::write_all(
-            STDERR_FILENO,
-            b"restore CURRENT WANTED LIST, or restore --show CURRENT WANTED\n",
-        );
+// The program's own name is argument 0.
+fn has_argument(rt: &impl Env, at: usize) -> bool {
+    let mut word = [0u8; 1];
+    match rt.arg(at, &mut word) {
+        Ok(_) | Err(FillError::TooLong) => true,
+        Err(FillError::NotPresent) => false,
+    }
+}
+
+fn is_argument(rt: &impl Env, at: usize, wanted: &[u8]) -> bool {
+    let mut word = [0u8; 4096];
+    match argument(rt, at, &mut word) {
+        Ok(n) => is_same(&word[..n], wanted),
+        Err(_) => false,
+    }
+}
+
+fn main(rt: HostRuntime) {
+    if !has_argument(&rt, 3) || has_argument(&rt, 4) {
+        let _ = eprintln!(rt; "restore CURRENT WANTED LIST, or restore --show CURRENT WANTED");
         return;
     }
-    let mut first = io::buffer();
-    let n = os::arg(1, &mut first);
-    if is_same(&first[..n], b"--show") {
-        restore_files(2, 3, true);
+    if is_argument(&rt, 1, b"--show") {
+        restore_files(&rt, 2, 3, true);
         return;
     }
-    restore_files(1, 2, false);
+    restore_files(&rt, 1, 2, false);
 }

@@ -2,7 +2,6 @@
 use super::buffer::{Buffer, ROOM, front, put, put_byte, put_decimal, put_hex};
 use super::real::put_real;
 use super::words::put_entry;
-use libc::STDOUT_FILENO;
 use octets::little::{four_at, two_at};
 use records::lookup::look_up;
 
@@ -37,7 +36,7 @@ fn put_name(line: &mut Buffer, at: usize, index: u16, sub: u8) -> usize {
     put_byte(line, end, b' ')
 }
 
-fn show_record(current: &[u8], index: u16, sub: u8, value: &[u8]) -> bool {
+fn show_record(rt: &impl Print, current: &[u8], index: u16, sub: u8, value: &[u8]) -> bool {
     let mut line = [0u8; ROOM];
     let mut at = put_name(&mut line, 0, index, sub);
     at = put_entry(&mut line, at, index, sub);
@@ -46,11 +45,11 @@ fn show_record(current: &[u8], index: u16, sub: u8, value: &[u8]) -> bool {
     at = put(&mut line, at, b" -> ");
     at = put_value(&mut line, at, index, value);
     at = put_byte(&mut line, at, b'\n');
-    io::write_all(STDOUT_FILENO, front(&line, at))
+    rt.write_all(front(&line, at)).is_ok()
 }
 
 // Whether all was written.
-pub fn show(current: &[u8], list: &[u8]) -> bool {
+pub fn show(rt: &impl Print, current: &[u8], list: &[u8]) -> bool {
     if list.len() < 4 {
         return false;
     }
@@ -61,7 +60,7 @@ pub fn show(current: &[u8], list: &[u8]) -> bool {
         if rest.len() < end {
             return false;
         }
-        if !show_record(current, two_at(rest, 0), rest[2], &rest[7..end]) {
+        if !show_record(rt, current, two_at(rest, 0), rest[2], &rest[7..end]) {
             return false;
         }
         rest = &rest[end..];

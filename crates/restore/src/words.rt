@@ -1,11 +1,11 @@
 // What an entry is, in the words of the paper's table of names.
-use super::buffer::Buffer;
+use super::buffer::{Buffer, ROOM, front, put_key};
 use super::rows::{put_row, row_of};
 
 // The key is the index with the sub as a fifth digit; the first row that has it counts.
 pub fn put_entry(line: &mut Buffer, at: usize, index: u16, sub: u8) -> usize {
-    let mut key = [0u8; 16];
-    let n = io::hex(index as u64 * 0x10 + sub as u64 % 0x10, 5, &mut key);
+    let mut key = [0u8; ROOM];
+    let n = put_key(&mut key, 0, index as u32 * 0x10 + sub as u32 % 0x10);
     let row = row_of(
         b"2502? EC #, digits
 2520? EC #, scaling 1
@@ -71,7 +71,7 @@ pub fn put_entry(line: &mut Buffer, at: usize, index: u16, sub: u8) -> usize {
 2361? output #, override number
 2362? output #, override response
 ",
-        &key[..n],
+        front(&key, n),
     );
     put_row(line, at, row, 6, index, sub)
 }

@@ -18,10 +18,13 @@ use Rattle.printer.proofs.Answers.{begins}
 -- ---- the program's loop
 
 -- a turn that read something
+pub a_turn : {k k' : Kept} {piece room room' : List ℕ} {printed took : ℕ} → length piece ≤ 256 → length room ≡ 256 * 64 → Hears k piece room k' room' printed took
+    → Turn k piece k' (take printed room')
+a_turn {piece = piece} {room} {room'} {printed} {took} read lent heard =
+    record { room = room; room' = room'; printed = printed; took = took; read = read; lent = lent; heard = heard; wrote = refl }
+
 pub answered : {k k' : Kept} {piece room room' : List ℕ} {printed took : ℕ} → length piece ≤ 256 → length room ≡ 256 * 64 → Hears k piece room k' room' printed took → Turned k k' true
-answered {piece = piece} {room} {room'} {printed} {took} read lent heard =
-    Turned.something piece (take printed room')
-    (record { room = room; room' = room'; printed = printed; took = took; read = read; lent = lent; heard = heard; wrote = refl })
+answered {piece = piece} {room' = room'} {printed} read lent heard = Turned.something piece (take printed room') (a_turn read lent heard)
 
 pub begun : {k : Kept} → Looped k k
 begun = record { input = []; written = []; turns = Turns.none }

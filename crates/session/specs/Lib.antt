@@ -1,4 +1,5 @@
 pub mod Byte
+pub mod Carried
 pub mod Dialogue
 pub mod Pieces
 pub mod Program

@@ -12,7 +12,7 @@ use dictionary::slots::Unit;
 pub const LINE: usize = 65;
 
 // How many bytes of the unfinished line are held, with how many bytes of answers the room begins, and how many bytes of the piece were taken.
-#[derive(Drop)]
+#[derive(Clone, Copy)]
 pub struct Heard {
     pub held: usize,
     pub printed: usize,

@@ -1,18 +1,17 @@
 -- A piece byte by byte, and what the lent array holds of an unfinished line.
 -- Assumes nothing.
-use Prim.Native.Nat.{ℕ, suc, ◌+◌, ◌*◌, ◌<◌, ◌≤◌, min}
+use Prim.Native.Nat.{ℕ, suc, ◌+◌, ◌≤◌, min}
 use mathlib.Core.Bool.{Bool, true, false}
-use mathlib.Core.List.{List, [], ◌∷◌, ◌++◌, foldl, foldl-append, append-nil, append_assoc}
+use mathlib.Core.List.{List, [], ◌∷◌, ◌++◌, foldl, foldl-append, append-nil}
 use mathlib.Core.Path.{◌≡◌, refl, sym, ap, ◌∙◌}
 use native.Mathlib.Omega.{arith}
 use native.Mathlib.Nat.{zero-add}
 use borrow.Author.Tests.{lt-leb, lt-ltb, leb-true, leb-false}
 use lib.Dec.{leb, ltb, eqb}
 use lib.ListN.{length, take, drop, set, length-append, length-take, take-append-drop}
-use lib.Seq.{sets, length-sets, length-take-le, sets-eq, set_out, take_all, take-append-le, take-take}
+use lib.Seq.{sets, length-sets, length-take-le, sets-eq, set_out, take_all, take-append-le}
 use Rattle.numbers.specs.Choice.{first}
 use Rattle.octets.proofs.little.Parts.{sets_append}
-use Rattle.printer.specs.Answering.{Said, said, unheard}
 use Rattle.session.specs.Dialogue.{Cut, joined, cut, told, next, answered, Kept, goes_on, prints, over, after}
 use Rattle.session.specs.Byte.{ending, step, speaks}
 

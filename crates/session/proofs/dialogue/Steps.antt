@@ -3,17 +3,17 @@
 use Prim.Native.Nat.{ℕ, suc, ◌+◌, ◌*◌, ◌/◌, ◌<◌, ◌≤◌, min}
 use mathlib.Core.Bool.{Bool, true, false}
 use mathlib.Core.List.{List, [], ◌∷◌, ◌++◌, append-nil}
-use mathlib.Core.Path.{◌≡◌, refl, sym, ap, subst, ◌∙◌}
+use mathlib.Core.Path.{◌≡◌, refl, sym, ap, ◌∙◌}
 use native.Mathlib.Omega.{arith}
 use native.Mathlib.Nat.{zero-add}
 use borrow.Author.Tests.{eq-eqb, ne_eqb, lt-ltb, le-ltb, leb-true, leb-false}
-use lib.Dec.{eqb, ltb, leb}
+use lib.Dec.{leb}
 use lib.ListN.{length, take, drop, set, get_or, length-append, length-take, take-append-drop}
 use lib.Seq.{sets, sets-eq, length-sets, take-suc, take_all, get_or-take, length-take-le, drop-length}
 use Rattle.numbers.specs.Choice.{first}
 use Rattle.printer.specs.Printing.{Printed}
 use Rattle.octets.proofs.little.Parts.{sets_append}
-use Rattle.session.specs.Dialogue.{cut, answered, Kept, goes_on, prints, over, after, taken, Hears}
+use Rattle.session.specs.Dialogue.{cut, answered, Kept, goes_on, prints, over, after, taken}
 use Rattle.session.specs.Byte.{ending, Finished, step, speaks, Taken}
 use Rattle.session.proofs.dialogue.Bytes.{after_next, prints_next}
 

@@ -1,14 +1,14 @@
 -- What a held line is answered.
 -- Assumes nothing.
-use Prim.Native.Nat.{ℕ, ◌<◌, ◌≤◌}
-use mathlib.Core.List.{List, [], ◌∷◌}
-use mathlib.Core.Path.{◌≡◌, refl, sym, ap, ◌∙◌}
+use Prim.Native.Nat.{◌<◌, ◌≤◌}
+use mathlib.Core.List.{[]}
+use mathlib.Core.Path.{◌≡◌}
 use native.Mathlib.Omega.{arith}
 use borrow.Author.Tests.{le-leb, lt-leb, ne_eqb}
 use lib.ListN.{length, take, length-take}
 use lib.Seq.{length-take-le, take_all}
 use Rattle.numbers.specs.Choice.{first}
-use Rattle.printer.specs.Answering.{Said, said, unheard}
+use Rattle.printer.specs.Answering.{said, unheard}
 use Rattle.session.specs.Dialogue.{cut, lines, told, next, answered, Kept, goes_on, closed}
 use Rattle.session.specs.Byte.{ending}
 use Rattle.session.proofs.dialogue.Short.{told_most}

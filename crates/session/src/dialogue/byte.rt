@@ -11,7 +11,7 @@ use printer::answering::answer;
 use printer::printing::show_unknown;
 
 // How many bytes of the line are held, and with how many bytes of answers the room begins.
-#[derive(Drop)]
+#[derive(Clone, Copy)]
 pub struct Here {
     pub held: usize,
     pub printed: usize,
