@@ -3,7 +3,7 @@
 A side is the program of drive.c over `plain` (plain.c), `valve` (the crates firmware and gateway) or `empty` (calls
 that do nothing). An event is a frame of 8 bytes, a tuple of four samples, one of Save, Check, Load and Spoil, which are
 about the image of a run, one of Keep, Make and Digest, which are about its list, Why, or one of Start, Paint and Gone. Only the
-kit's compiler is used. On an x86-64 a run is counted by single steps, elsewhere by the log of the kit's emulator; both give
+kit's compiler is used. On an x86-64 a run is counted by single steps, elsewhere by the log of an emulator; both give
 every instruction.
 """
 
@@ -25,8 +25,8 @@ import build as chips  # noqa: E402
 OUT = ROOT / "target" / "bench"
 
 
-TOOLS = chips.kit()[1]
-EMULATOR = [] if platform.machine() == "x86_64" else [str(TOOLS / "qemu-x86_64")]
+TOOLS = chips.tools()
+EMULATOR = [] if platform.machine() == "x86_64" else ["qemu-x86_64"]  # Debian's
 C = "--target=x86_64-linux-gnu -std=c11 -O2 -ffp-contract=off -Wall -Wextra -Werror -nostdinc -fno-stack-protector".split()
 C += ["-ffunction-sections", "-fdata-sections"]  # as the crates' objects are, so that a linker can leave out what nobody calls
 

@@ -63,7 +63,7 @@ def linked(chip, source, libraries):
     if chip in NOT_WHOLE:
         parts.append(build.compiled(chip, HERE / "chip" / "real32.c", OUT / (program.name + ".real32.o"), *words))
     memory = ["-T", HERE / "chip" / "link.ld"] if chip in BOARDS else []
-    subprocess.run([build.kit()[1] / "ld.lld", *memory, "--gc-sections", "-o", program, *parts, *libraries], check=True)
+    subprocess.run([build.tools() / "ld.lld", *memory, "--gc-sections", "-o", program, *parts, *libraries], check=True)
     return program
 
 

@@ -114,13 +114,23 @@ REFUSED = (
     "%p = inttoptr i64 %a to ptr",
     "%q = addrspacecast ptr %p to ptr addrspace(1)",
     "%s = type { i32, ptr }",
-    "%v = load { ptr, i64 }, ptr %p",
+    "  %v = load { ptr, i64 }, ptr %p, align 8",
+    "  %v = load { i8, ptr }, ptr %p, align 8",
+    "  %v = alloca { i8, i64 }, align 8",
+    "  store { i8, i64 } %v, ptr %p, align 8",
+    "  %q = getelementptr { i8, i64 }, ptr %p, i32 0, i32 1",
+    "define { i8, i64 } @valve_start(ptr %a0) {",
+    "  call void @f({ i8, i64 } %v)",
     "%v = insertvalue { i32, i1 } undef, i32 %a, 0",
     "@t = constant <{ [4 x i8] }> zeroinitializer",
     'call void asm sideeffect "nop", ""()',
     "%v = call i64 @llvm.x86.rdtsc()",
 )
 TAKEN = 'define internal void @"a::{ i32 }"(ptr %p, i64 %n) #0 {\n  %v = load [8 x i8], ptr %p, !range !{i8 0, i8 2}\n  ret void\n}'
+NUMBERS_GIVEN_BACK = 'define internal noundef { i8, i64 } @"a::b"(ptr %p) #0 {\n  %v = load { i8, i64 }, ptr %p, align 8\n  ret { i8, i64 } %v\n}\n'
+NUMBERS_GIVEN_BACK += 'define internal void @"a::c"(ptr %p) #0 {\n  %v = call { i8, i64 } @"a::b"(ptr %p)\n  %w = extractvalue { i8, i64 } %v, 1\n  ret void\n}'
+# On an i386 the 64 bits lie nearer.
+OTHERWISE = ["--target=i386-unknown-linux-gnu"], ["--target=x86_64-unknown-linux-gnu"], ["{ i8, i64 }"]
 
 
 def check_modules():
@@ -131,13 +141,19 @@ def check_modules():
             wrong.append("a module with '%s' is not refused" % line)
         except build.Refused:
             pass
-    build.looked_at("a crate", TAKEN)
+    for text in (TAKEN, NUMBERS_GIVEN_BACK):
+        build.looked_at("a crate", text)
+    one, other, kinds = OTHERWISE
+    if build.layouts(one, kinds) == build.layouts(other, kinds):
+        wrong.append("a struct that lies otherwise is not noticed")
+    for chip in build.CHIPS:
+        build.held(chip, "a crate", NUMBERS_GIVEN_BACK)
     return wrong
 
 
 # Stands in for rt where a crate is not proved.
 UNPROVED = """#!/bin/sh
-[ "$1" = doc ] && { echo "%s/docs/START-HERE.md"; exit; }
+[ "$1" = doc ] && { echo "%s/START-HERE.md"; exit; }
 echo "rt: FAILED: firmware"
 exit 1
 """
@@ -149,9 +165,10 @@ def check_refusals():
     with tempfile.TemporaryDirectory() as folder:
         place = pathlib.Path(folder)
         shutil.copytree(ROOT / "chip", place / "chip")
+        shutil.copytree(ROOT / "tools", place / "tools")
         for file in ("run", "crates.txt"):
             shutil.copy(ROOT / file, place)
-        (place / "crates").symlink_to(ROOT / "crates")
+        shutil.copytree(ROOT / "crates", place / "crates", ignore=shutil.ignore_patterns("out", "proofs"))
         tools = place / "bin"
         tools.mkdir()
         for tool in ("sh", "dirname"):
@@ -166,7 +183,7 @@ def check_refusals():
 
         tried("z80", "no chip 'z80'; there are cortex-m0plus, ", 2)
         tried("cortex-m3", "no kit: ", 2)
-        (tools / "rt").write_text(UNPROVED % build.kit()[0])
+        (tools / "rt").write_text(UNPROVED % build.kit.home())
         (tools / "rt").chmod(0o755)
         tried("cortex-m3", "firmware is not proved: ", 1)
     return wrong

@@ -2,30 +2,37 @@
 
     python3 line.py    status 1 at a function of the routine that has something wider, with its name and what it has
 
-What the kit lowers the crate to (`rt mir`) is read: `line` and `limited`, and every function that they reach. A type, a number or a
-cast of 64 bits, and any floating-point number, is refused. The check's own check: the same routine widened to 64 bits, in a copy, where
+What the kit lowers the crate to is read, as `rattle check --generated` prints it: `line` and `limited`, and every function that they reach. A
+type, a number or a cast of 64 bits, and any floating-point number, is refused. The check's own check: the same routine widened to 64 bits, in a copy, where
 each function that was widened must be named.
 """
 
 import pathlib
 import re
 import shutil
-import subprocess
 import sys
 import tempfile
 
 from tree import CRATES, ROOT
 
+sys.path.insert(0, str(ROOT / "tools"))
+import kit  # noqa: E402
+
 ROUTINE = ("numbers::whole_line::line", "numbers::whole_line::limited")
-WIDER = re.compile(r"\((?:tyInt|int|cast \w+ \w+) 64\b|\((?:tyFloat|float) \d+|\bfloat\w+")
+WIDER = re.compile(r"\bSyntax\.w(?:64|128)\b|\b\w*(?:float|binary)\w*")
 
 
-def functions(repository):
-    """Every function of the crate `numbers`, as its MIR's text."""
-    said = subprocess.run(["rt", "mir", "numbers"], cwd=repository, stdout=subprocess.PIPE, stderr=subprocess.PIPE, text=True)
-    assert said.returncode == 0, "rt mir numbers: status %d: %s" % (said.returncode, said.stderr[:300])
-    parts = re.split(r'\(fn-def "([\w:]+)"', said.stdout)
-    return dict(zip(parts[1::2], parts[2::2]))
+def functions(crate):
+    """Every function of the crate `numbers` in that folder, as its lowered code's text. None of it has to be proved."""
+    names = []
+    for file in sorted((crate / "src").rglob("*.rt")):
+        module = "::".join(file.relative_to(crate / "src").with_suffix("").parts)
+        names += [name if module == "lib" else "%s::%s" % (module, name) for name in re.findall(r"^(?:pub )?fn (\w+)", file.read_text(), re.M)]
+    with tempfile.TemporaryDirectory() as folder:
+        done = kit.rattle("check", "numbers", "--generated", folder, *(word for name in names for word in ("--start", name)), folder=crate)
+        assert done.returncode == 0, "rattle check --generated: status %d: %s" % (done.returncode, done.stdout[-300:])
+        code = pathlib.Path(folder) / "Rattle-numbers-proofs"
+        return {"numbers::" + name: (code / name.replace("::", "/") / "Code" / "Mir.antt").read_text() for name in names}
 
 
 def reached(every):
@@ -35,15 +42,15 @@ def reached(every):
         name = waiting.pop()
         if name not in found:
             found.append(name)
-            waiting += re.findall(r'\(fnRef "([\w:]+)"\)', every[name].split('(fnRef "rt_empty::main")')[0])
+            waiting += [path.replace(".proofs.", "::").replace(".", "::") for path in re.findall(r"^use Rattle\.(\S+)\.Symbol\b", every[name], re.M)]
     return found
 
 
-def wider(repository):
-    """What is wider than 32 bits, by the function that has it."""
-    every = functions(repository)
+def wider(crate):
+    """What is wider than 32 bits, by the function that has it; and how many functions were looked at."""
+    every = functions(crate)
     found = {name: sorted(set(WIDER.findall(every[name]))) for name in reached(every)}
-    return {name: what for name, what in found.items() if what}
+    return {name: what for name, what in found.items() if what}, len(found)
 
 
 # The routine as somebody would widen it: each line of its file, and the functions that then have something wider.
@@ -59,24 +66,24 @@ NOTICED = {"numbers::whole_line::rounded", "numbers::whole_line::weighed"}
 def noticed():
     """The functions that the check names in the widened routine."""
     with tempfile.TemporaryDirectory() as folder:
-        copy = pathlib.Path(folder)
-        shutil.copytree(CRATES / "numbers", copy / "crates" / "numbers")
-        (copy / "crates.txt").write_text("numbers:\n")
-        file = copy / "crates" / "numbers" / "src" / "whole_line.rt"
+        copy = pathlib.Path(folder) / "numbers"
+        shutil.copytree(CRATES / "numbers", copy, ignore=shutil.ignore_patterns("out"))
+        file = copy / "src" / "whole_line.rt"
         text = file.read_text()
         for old, new in WIDENED:
             assert text.count(old) == 1, "the routine has no '%s'" % old
             text = text.replace(old, new)
         file.write_text(text)
-        return set(wider(copy))
+        return {*wider(copy)[0]}
 
 
 def main():
-    assert noticed() == NOTICED, "a routine that is widened is not noticed: %s" % sorted(noticed())
-    found = wider(ROOT)
+    found, many = wider(CRATES / "numbers")
     for name, what in found.items():
         print("%s has %s" % (name, ", ".join(what)))
-    print("the line routine, %d functions: %s" % (len(reached(functions(ROOT))), "wider than 32 bits" if found else "nothing wider than 32 bits"))
+    others = noticed()
+    assert others == NOTICED, "a routine that is widened is not noticed: %s" % sorted(others)
+    print("the line routine, %d functions: %s" % (many, "wider than 32 bits" if found else "nothing wider than 32 bits"))
     return 1 if found else 0
 
 

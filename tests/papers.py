@@ -4,7 +4,7 @@
                                  at a table that is not as found, or at a public function without its contract
     python3 papers.py --write    writes TRUST.md's tables anew, in place
 
-Looked at are README.md, docs/ with what stands below it, and the README.md of tests/, bench/ and chip/: names in backticks, and in TRACE.md the words before
+Looked at are README.md, docs/ with what stands below it but PORT.md, which names what is gone, and the README.md of tests/, bench/ and chip/: names in backticks, and in TRACE.md the words before
 them too. A file of definitions has to be believed if one is led to it, by what is cited, from a demand, from the statements on a
 session's pieces and on its program, from what a line of the spool product's session does, or from a contract that stands at the edge: of a function that C calls, that a program uses, or that nothing
 else in the tree uses.
@@ -15,13 +15,14 @@ import functools
 import re
 import sys
 
+import trials
 import wrong_answers
 from tree import CRATES, ROOT, public, public_functions
 
 TRUST = ROOT / "docs" / "TRUST.md"
-PAPERS = [ROOT / "README.md", *sorted(ROOT.glob("docs/**/*.md")), ROOT / "tests" / "README.md", ROOT / "bench" / "README.md", ROOT / "chip" / "README.md"]
-LEANING = {name: below.split() for name, below in re.findall(r"^(\w+):(.*)", (ROOT / "crates.txt").read_text(), re.M)}
-WORDS = ("crates.txt", "crates/**/*.rt", "crates/**/*.antt", "crates/*/*.h", "bench/*", "chip/*", "tests/*", "tests/chip/*")
+PAPERS = [ROOT / "README.md", *sorted({*ROOT.glob("docs/**/*.md")} - {ROOT / "docs" / "PORT.md"}), ROOT / "tests" / "README.md", ROOT / "bench" / "README.md", ROOT / "chip" / "README.md"]
+LEANING = {name: below for name, (_, below) in trials.kit.lines().items()}
+WORDS = ("crates.txt", *("crates/*/%s/**/*.*" % part for part in trials.kit.PARTS), "crates/*/*.h", "bench/*", "chip/*", "tests/*", "tests/chip/*", "tools/*")
 TICKED = re.compile(r"`([^`]+)`")
 
 # --------------------------------------------------------------------------- TRUST.md's tables
@@ -36,10 +37,12 @@ def readme_order():
 
 
 def cited(file):
-    """The files of definitions that a file cites, and the code's own types; no definition may rest on a proof."""
+    """The files of definitions that a file cites, and the code's own types; no definition may rest on a proof of this repository's."""
     text = file.read_text()
-    assert not re.search(r"Rattle·\w+[·.]proofs", text), "%s cites a proof" % file
-    for crate, path in re.findall(r"Rattle·(\w+)(?:·specs\.specs|\.specs)\.([\w.]+)", text):
+    for crate, part, path in re.findall(r"\bRattle\.(\w+)\.(proofs|specs)\b\.?([\w.]*)", text):
+        if crate not in LEANING:
+            continue
+        assert part == "specs", "%s cites a proof" % file
         if path.startswith("declared."):
             kind = next(word for word in path.split(".") if word[0].isupper())
             yield crate, kind
@@ -50,11 +53,10 @@ def cited(file):
 def edge():
     """The files of code whose contracts stand at the edge."""
     crates = {name for name in LEANING if not any(name in below for below in LEANING.values())}
-    crates |= {lib.parts[-3] for lib in CRATES.glob("*/src/lib.rt") if "#[no_mangle]" in lib.read_text()}
     files = {file for lib in (CRATES / name / "src" / "lib.rt" for name in crates) if lib.exists() for file in public(lib)}
     for main in CRATES.glob("*/src/main.rt"):
         for part in main.parent.rglob("*.rt"):
-            for crate, path in re.findall(r"^use (\w+)::((?:\w+::)*)\w+;", part.read_text(), re.M):
+            for crate, path in re.findall(r"^use (\w+)::((?:\w+::)*)(?:\w+|\{[^{}]*\});", part.read_text(), re.M):
                 if crate in LEANING:
                     files.add(CRATES / crate / "src" / (path.strip(":").replace("::", "/") + ".rt" if path else "lib.rt"))
     return files
@@ -106,26 +108,22 @@ def definitions():
 
 
 def verdict(crate):
-    """What the last check printed of the functions of C that are assumed: their count, and the lines that name them."""
-    said = "".join((ROOT / "target" / "log" / (crate + end)).read_text() for end in (".out", ".say"))
-    assert re.search(r"^logic=proved ", said, re.M), "target/log has no verdict of %s: run rt check" % crate
+    """What a check prints of the functions of C that are assumed: their count, and the lines that name them."""
+    said = "\n".join(trials.said_of(crate))
     count = re.search(r"^logic=proved .*(axioms=\d+)", said, re.M)
-    return count and count[1], [*dict.fromkeys(re.findall(r"^axioms [^)]*\)", said, re.M))]
+    return count and count[1], [*dict.fromkeys(re.findall(r"^axioms [^)\n]*\)", said, re.M))]
 
 
 def axioms():
-    """A row for each crate that leans on one of the kit's for C."""
+    """A row for each program and each static library."""
     rows, others = ["| crate | prints |", "|---|---|"], 0
-    for crate, below in LEANING.items():
+    for crate, (is_static, _) in trials.kit.lines().items():
+        if not is_static and not (CRATES / crate / "src" / "main.rt").exists():
+            others += 1
+            continue
         count, lines = verdict(crate)
-        leans = bool({"libc", "io", "os"} & {*below})
-        assert leans or not count, "%s prints %s and leans on nothing of C's" % (crate, count)
-        others += not leans
-        if count:
-            rows.append("| `%s` | `%s`: %s |" % (crate, count, ", ".join("`%s`" % line for line in lines)))
-        elif leans:
-            rows.append("| `%s` | no `axioms=`: the programs that use it count them |" % crate)
-    return "\n".join([*rows, "| the other %d | no `axioms=`: they lean on nothing that declares functions of C |" % others])
+        rows.append("| `%s` | %s |" % (crate, "`%s`: %s" % (count, ", ".join("`%s`" % line for line in lines)) if count else "no `axioms=`: it reaches none"))
+    return "\n".join([*rows, "| the other %d | libraries: what is built of them counts |" % others])
 
 
 def with_tables(text):

@@ -2,8 +2,8 @@
 
     python3 readme.py
 
-Run are the first command but for its 'rt check', which the gate has done, and the five lines that link both libraries into
-a C program; the first of the five, which builds the libraries, is run once for all tests. The firmware for a chip is compiled
+Run are the first command but for what proves and builds its program, which the gate has done, and the five lines that link both
+libraries into a C program; the first of the five, which builds the libraries, is run once for all tests. The firmware for a chip is compiled
 for it and linked: beside the board's own functions it asks for memory copies at most. The copy has the repository's own
 files and what was proved, so that nothing is proved twice and no other test is disturbed. The exit status is 1 where something
 else is printed.
@@ -26,7 +26,8 @@ import helpers  # noqa: E402
 # of count, then 3015h:2, its size and 150.
 FIRST = "Run it:", ["4F01100000000000", "6015300200000000", "O 0 0 0 0 00"]
 LINKED = "There are three static libraries:", ["13 bytes: 01 00 00 00 15 30 02 02 00 00 00 96 00"]
-DONE_BY_THE_GATE = "rt check && "
+DONE_BY_THE_GATE = "(cd crates/session && rt run </dev/null) && "
+PROGRAM = "crates/session/out/session"
 BUILT = "firmware", "gateway"
 ON_A_CHIP = "makes `target/chip/cortex-m4f/`"
 BOARD = {"read_inputs", "drive_coils", "can_send"}
@@ -47,9 +48,10 @@ def copy(place):
     for name in listed.split("\0")[:-1]:
         (place / name).parent.mkdir(parents=True, exist_ok=True)
         shutil.copy2(ROOT / name, place / name)
-    shutil.copytree(ROOT / "target" / "stamp", place / "target" / "stamp")
-    for made in ("rlib", "bin", "staticlib"):
-        (place / "target" / made).symlink_to(ROOT / "target" / made)
+    (place / PROGRAM).parent.mkdir()
+    (place / PROGRAM).symlink_to(ROOT / PROGRAM)
+    (place / "target").mkdir()
+    (place / "target" / "staticlib").symlink_to(ROOT / "target" / "staticlib")
 
 
 def prints(place, lines, expected):
@@ -69,7 +71,7 @@ def links_on_a_chip(place):
     words = ["-Wall", "-Wextra", "-Werror", "-I%s" % library.parent, "-I%s" % (ROOT / "bench" / "include")]
     made = chips.compiled("cortex-m4f", place / "firmware.c", place / "firmware.o", *words)
     calls = ["-u", "power_up", "-u", "every_millisecond", "-u", "can_received"]
-    linker = [chips.kit()[1] / "ld.lld", "-r", "--gc-sections", "-e", "power_up", *calls, "-o", place / "linked.o", made, library]
+    linker = [chips.tools() / "ld.lld", "-r", "--gc-sections", "-e", "power_up", *calls, "-o", place / "linked.o", made, library]
     subprocess.run(linker, check=True)
     asked = set(elf.Object((place / "linked.o").read_bytes()).asked())
     if BOARD <= asked and asked - BOARD <= helpers.MEMORY:
@@ -85,7 +87,7 @@ def main():
         first = block(FIRST[0])
         assert len(first) == 1 and first[0].startswith(DONE_BY_THE_GATE), first
         linking = block(LINKED[0])
-        assert len(linking) == 5 and linking[0] == " && ".join("rt staticlib %s" % crate for crate in BUILT), linking
+        assert len(linking) == 5 and linking[0] == "./run staticlib " + " ".join(BUILT), linking
         for crate in BUILT:
             sides.library(crate)
         good = prints(place, [first[0].removeprefix(DONE_BY_THE_GATE)], FIRST[1])

@@ -44,7 +44,8 @@ USES = """\
 ./run why OUTPUT                     reads the lines of a session, then says in words why the output has its command
 ./run restore CURRENT WANTED LIST    writes the restore list of two image files, all of it or nothing
 ./run restore --show CURRENT WANTED  one line for each entry that differs, in send order
-./run chip [CHIP]                    builds the libraries for a chip into target/chip/CHIP; without one, says which chips there are
+./run staticlib NAME..               builds libraries for C, firmware, spool or gateway, into target/staticlib
+./run chip [CHIP]                    builds them for a chip into target/chip/CHIP; without one, says which chips there are
 """
 USE = "restore CURRENT WANTED LIST, or restore --show CURRENT WANTED\n"
 REFUSALS = {
@@ -455,10 +456,10 @@ def check_signals(check):
 def check_broken(check):
     """A program that is missing, or that ends without saying that it is done."""
     with tempfile.TemporaryDirectory() as folder:
-        program = pathlib.Path(folder, "target", "bin", "restore")
+        program = pathlib.Path(folder, "crates", "restore", "out", "restore")
         starter = shutil.copy(RUN, folder)
         words = ["restore", "current", "wanted", "list"]
-        check.expect(words, 1, "", "no %s: build it first with 'rt check'\n" % program, program=starter)
+        check.expect(words, 1, "", "no %s: build it first, with 'rt run' in crates/restore\n" % program, program=starter)
         program.parent.mkdir(parents=True)
         program.write_bytes(b"no program")
         program.chmod(0o755)

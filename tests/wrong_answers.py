@@ -1,15 +1,17 @@
 """The must-fail edits, wrong answer by wrong answer: each has to be refused by itself.
 
-    python3 wrong_answers.py    after `rt ci`, whose logs it reads; status 1 at a wrong answer that is not refused
+    python3 wrong_answers.py [CRATE..]    best after `rt ci` or `rt all check`; status 1 at a wrong answer that is not refused
 
-An edit makes wrong answers, and `rt ci` tells that its check was refused. Before its changes stands 'wrong: NAME by FUNCTION' or
-'wrong: NAME by File.law': what it is called, and whose proof has to notice it.
+An edit makes wrong answers, and `rt ci` tells that its check was refused, by the first line of what that said. All that it says is read here:
+each check is made once more (trials.py), some ten seconds each, beside one of each crate as it stands. Before an edit's changes stands
+'wrong: NAME by FUNCTION' or 'wrong: NAME by File.law': what it is called, and whose proof has to notice it.
 
 A check judges each function by its own code and by the contracts of what it calls, and each law by its own statement. So a round,
 round_1.edit and so on, holds a wrong answer of each of several functions, or a wrong statement of each of several laws: one check
 tries them all, and what it says of each function's own proof, or of each law, tells whether that one is refused. Of a round: each wrong
 answer is another function's or law's; its changes stand in what is that one's alone; the check has found a fact there that does not
-hold; and nothing else is unproved but for what rests on one of them.
+hold; and nothing else is unproved but for what rests on one of them. Where the check leaves a function's goals untried, since they wait for a
+callee that is refused in the same round, that wrong answer is made alone and checked by itself.
 
 An edit that changes what several lean on, a definition as a rule, stands alone in a file of its own name: the check has found a fact of
 the one that it names that does not hold.
@@ -17,16 +19,21 @@ the one that it names that does not hold.
 
 import re
 import sys
+from concurrent.futures import ThreadPoolExecutor
 
-from tree import CRATES, ROOT, public_functions
-
-LOGS = ROOT / "target" / "must-fail"
+import trials
+from tree import CRATES, public_functions
 
 WRONG = re.compile(r"wrong: (\w+) by ([\w:.-]+)")
-VERDICT = re.compile(r"fn \w+?::([\w:]+): (.*)")
-ERROR = re.compile(r"(\S+)\.antt:\d+:\d+: error: `([^`]+)`: (.*)")
+VERDICT = re.compile(r"fn \w+?::(\S+): (.*)")
+ERROR = re.compile(r"(?:\./)?(\S+)\.antt:\d+:\d+: error: `([^`]+)`: (.*)")
+# A goal that nothing proves, in a line above its function's.
+OPEN = re.compile(r"note: src/\S+:\d+:\d+: it is not proved that .*")
+LEFT_OUT = re.compile(r"(?:\./)?(\S+)\.antt:\d+:\d+: error: \d+ declarations? that depends? on .* not admitted")
+UNTRIED = "note: `search` has not tried the goals of `%s`"
+PROOF = re.compile(r"(.*)/(?:Answers|Invariants|Proof)")
 # What is no fact: what is left over when something else was refused, or names a thing that is gone.
-FOLLOWS = ("was not admitted", "not in scope", "has no field", "can be named from here")
+FOLLOWS = ("was not admitted", "not in scope", "has no field", "has no `", "can be named")
 
 
 class Wrong:
@@ -97,10 +104,10 @@ def of_law(crate, law):
     """
     module, name = law.split(".")
     file = CRATES / crate / "specs" / (module + ".antt")
-    title, text = name[0].upper() + name[1:], file.read_text() if file.exists() else ""
+    title, text = "".join(word[:1].upper() + word[1:] for word in name.removesuffix("_lem").split("_")), file.read_text() if file.exists() else ""
     statement = re.search(r"^abbrev pub %s :.*?\n(?=\n|\Z)" % title, text, re.M | re.S)
     if statement:
-        others = re.sub(r"^use .*$|^ *pub [\w-]+ : %s$|--.*$" % title, "", everything(crate, "specs/*.antt"), flags=re.M)
+        others = re.sub(r"^(?:pub )?(?:use|mod) .*$|^ *pub [\w-]+ : %s$|--.*$" % title, "", everything(crate, "specs/*.antt"), flags=re.M)
         return [("specs/%s.antt" % module, statement[0])] if uses(others, title) == uses(statement[0], title) else []
     own = []
     for laws in (CRATES / crate / "proofs").rglob(module + ".antt"):
@@ -118,25 +125,43 @@ def stand(changes, file, text):
     return True
 
 
-def facts(log):
-    """The facts that the check found not to hold: of each, the function whose proof needs it, or the law as File.law.
+def proved_by(place):
+    """The function whose proof a file is, by its place below proofs/, or nothing."""
+    proof = PROOF.fullmatch(place)
+    return proof and proof[1].replace("/", "::")
 
-    What only puts a function's facts together, its `..-spec`, is none.
-    """
+
+def facts(log):
+    """The facts that the check found not to hold: of each, the function whose proof needs it, or the law as File.law."""
+    is_open = False
     for line in re.sub(r"\n +(?=has no field)", " ", "\n".join(log)).splitlines():  # behind a long name it stands on a line of its own
         error, verdict = ERROR.match(line), VERDICT.match(line)
-        if error and not error[2].endswith("-spec") and not any(words in error[3] for words in FOLLOWS):
-            place = re.sub(r".*/(specs|proofs)/", "", error[1])
-            yield place.removesuffix("/Proof").replace("/", "::") if place.endswith("/Proof") else "%s.%s" % (place.split("/")[-1], error[2])
-        elif verdict and verdict[2].startswith("no proof: ") and "`search` does not close" in verdict[2]:
-            yield verdict[1]
+        if error and not any(words in error[3] for words in FOLLOWS):
+            place = re.sub(r"^(?:.*/)?(specs|proofs)/", "", error[1])
+            yield proved_by(place) or "%s.%s" % (place.split("/")[-1], error[2])
+        elif OPEN.match(line):
+            is_open = True
+        elif verdict:
+            if verdict[2] != "proved" and (is_open or re.match(r"no proof: expected answers in .*`search` did not prove ", verdict[2])):
+                yield verdict[1]
+            is_open = False
 
 
 def resting(log):
     """The functions whose proofs name what was not admitted: they rest on a law that is refused."""
+    for left_out in filter(None, map(LEFT_OUT.match, log)):
+        function = proved_by(re.sub(r"^(?:.*/)?proofs/", "", left_out[1]))
+        if function:
+            yield function
     for error in filter(None, map(ERROR.match, log)):
-        if error[1].endswith("/Proof") and not error[2].endswith("-spec") and "was not admitted" in error[3]:
-            yield re.sub(r".*/proofs/", "", error[1]).removesuffix("/Proof").replace("/", "::")
+        function = proved_by(re.sub(r"^(?:.*/)?proofs/", "", error[1]))
+        if function and "was not admitted" in error[3]:
+            yield function
+
+
+def is_untried(crate, whose, log):
+    """Whether the check left the function's goals untried, since they wait for a callee's proof."""
+    return any(line.startswith(UNTRIED % ("%s::%s" % (crate, whose))) for line in log)
 
 
 def faults(crate, wrongs, log, alone=False):
@@ -152,16 +177,26 @@ def faults(crate, wrongs, log, alone=False):
         if not any(stand(wrong.changes, file, text) for file, text in own):
             said.append("%s: changes more than %s" % (wrong.name, wrong.whose))
     verdicts = [verdict.groups() for verdict in map(VERDICT.match, log) if verdict]
-    apart = {name for name, verdict in verdicts if verdict != "proved" and "; it calls" not in verdict} - {*resting(log)} | broken
+    apart = {name for name, verdict in verdicts if verdict != "proved" and "it calls `" not in verdict} - {*resting(log)} | broken
     return said + ["%s is refused too" % name for name in sorted(apart - {*owners})]
 
 
 def without(log, whose):
     """The log as it would be if that wrong answer were taken for right."""
     file, _, law = whose.partition(".")
-    begin = r"\S*/proofs/(?:\S+/)?%s\.antt:\S+ error: `%s`" % (file, law) if law else r"\S*/proofs/%s/Proof\.antt:" % whose.replace("::", "/")
-    kept = [line for line in log if not re.match(begin, line)]
-    return [re.sub(r"^(fn \w+::%s: ).*" % whose, r"\1proved", line) for line in kept]
+    begin = r"\S*proofs/(?:\S+/)?%s\.antt:\S+ error: `%s`" % (file, law) if law else r"\S*proofs/%s/(?:Answers|Invariants|Proof)\.antt:" % whose.replace("::", "/")
+    kept, notes = [], []
+    for line in log:
+        verdict = VERDICT.match(line)
+        if OPEN.match(line):
+            notes.append(line)
+        elif verdict and verdict[1] == whose:
+            kept.append(re.sub(r": .*", ": proved", line))
+            notes = []
+        elif not re.match(begin, line):
+            kept += [*notes, line] if verdict else [line]
+            notes = [] if verdict else notes
+    return kept
 
 
 def edited(crate, wrongs):
@@ -169,22 +204,9 @@ def edited(crate, wrongs):
     texts = {}
     for file, old, new in (change for wrong in wrongs for change in wrong.changes):
         text = texts.get(file) or (CRATES / crate / file).read_text()
+        assert text.count(old) == 1, "%s: '%s' stands %d times in %s" % (crate, old, text.count(old), file)
         texts[file] = text.replace(old, new)
     return texts
-
-
-def is_of(copy, crate, wrongs):
-    """Whether the copy of the crate that was checked is today's crate with just this edit."""
-    texts = edited(crate, wrongs)
-    for part in ("src", "specs", "proofs"):
-        here = {file.relative_to(CRATES / crate).as_posix() for file in (CRATES / crate / part).rglob("*.*")}
-        there = {file.relative_to(copy).as_posix() for file in (copy / part).rglob("*.*")}
-        if here != there:
-            return False
-        for file in here:
-            if (copy / file).read_text() != (texts.get(file) or (CRATES / crate / file).read_text()):
-                return False
-    return True
 
 
 def untried():
@@ -203,25 +225,48 @@ def untried():
         yield from ("%s/%s: stands twice" % (crate, name) for name in sorted({name for name in every if every.count(name) > 1}))
 
 
-def main():
-    said, count, edits = list(untried()), 0, sorted(CRATES.glob("*/must-fail/*.edit"))
+def judged(crate, wrongs, alone, seed):
+    """The faults of an edit, and how many checks it took."""
+    log = seed.tried(edited(crate, wrongs))
+    apart = [] if alone else [wrong for wrong in wrongs if wrong.whose not in {*facts(log)} and is_untried(crate, wrong.whose, log)]
+    said = faults(crate, wrongs, log, alone)
+    said = [fault for fault in said if not any(fault.startswith("%s: no fact of " % wrong.name) for wrong in apart)]
+    for wrong in apart:
+        own = seed.tried(edited(crate, [wrong]))
+        said += faults(crate, [wrong], own)
+        assert faults(crate, [wrong], without(own, wrong.whose)), "%s/%s is not looked for" % (crate, wrong.name)
+    # The check's own check: one that slipped through, and one that spoils what is another's, would be noticed.
+    for wrong in wrongs:
+        others = [other for other in wrongs if other is not wrong]
+        assert wrong in apart or faults(crate, wrongs, without(log, wrong.whose), alone), "%s/%s is not looked for" % (crate, wrong.name)
+        assert alone or wrong in apart or faults(crate, others, log), "%s/%s is not seen to spoil others" % (crate, wrong.name)
+    return said, 1 + len(apart)
+
+
+def main(words):
+    said, count, checks, edits = list(untried()), 0, 0, sorted(CRATES.glob("*/must-fail/*.edit"))
     assert edits, "there are no must-fail edits"
-    for edit in edits:
-        crate, wrongs, alone = edit.parts[-3], wrong_answers(edit), stands_alone(edit)
-        copy = LOGS / crate / edit.stem
-        assert (copy / ".log").exists(), "no log of %s/%s: run rt ci first" % (crate, edit.stem)
-        assert is_of(copy, crate, wrongs), "the log of %s/%s is of another edit: run rt ci first" % (crate, edit.stem)
-        log = (copy / ".log").read_text().splitlines()
-        said += ["%s/%s: %s" % (crate, edit.stem, fault) for fault in faults(crate, wrongs, log, alone)]
-        count += len(wrongs)
-        # The check's own check: one that slipped through, and one that spoils what is another's, would be noticed.
-        for wrong in wrongs:
-            assert faults(crate, wrongs, without(log, wrong.whose), alone), "%s/%s is not looked for" % (crate, wrong.name)
-            others = [other for other in wrongs if other is not wrong]
-            assert alone or faults(crate, others, log), "%s/%s is not seen to spoil others" % (crate, wrong.name)
-    print("".join(fault + "\n" for fault in said) + "%d wrong answers in %d checks, %d faults" % (count, len(edits), len(said)))
+    edits = [edit for edit in edits if not words or edit.parts[-3] in words]
+    crates = sorted({edit.parts[-3] for edit in edits}, key=lambda crate: -sum(file.stat().st_size for file in trials.kit.files_of(crate).values()))
+    with ThreadPoolExecutor(trials.at_a_time()) as pool:
+        # First what all edits of a crate begin with; an edit waits for nothing that is not under way.
+        seeds = {crate: pool.submit(trials.Seed, crate) for crate in crates}
+        judge = lambda edit: judged(edit.parts[-3], wrong_answers(edit), stands_alone(edit), seeds[edit.parts[-3]].result())
+        edits.sort(key=lambda edit: (-crates.index(edit.parts[-3]), edit.stem))
+        tried = [(edit, pool.submit(judge, edit)) for edit in edits]
+        for edit, judgement in tried:
+            try:
+                found, took = judgement.result()
+            except AssertionError as why:
+                found, took = [str(why)], 1
+            said += ["%s/%s: %s" % (edit.parts[-3], edit.stem, fault) for fault in found]
+            count, checks = count + len(wrong_answers(edit)), checks + took
+        for seed in seeds.values():
+            if not seed.exception():
+                seed.result().done()
+    print("".join(fault + "\n" for fault in said) + "%d wrong answers in %d checks, %d faults" % (count, checks, len(said)))
     return 1 if said else 0
 
 
 if __name__ == "__main__":
-    sys.exit(main())
+    sys.exit(main(sys.argv[1:]))
