@@ -1,0 +1,6 @@
+-- The library's contract, so that a wrong body is refused for what it is.
+-- Assumes nothing.
+use Rattle.spool_c.proofs.spool_start.Goals as goal
+
+pub returns : goal.returns
+returns c = record { unit = c.spool_start.ensures.unit; sent = c.spool_start.ensures.sent }
