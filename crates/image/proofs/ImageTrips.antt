@@ -169,7 +169,7 @@ module _ (image : List ℕ) (a : Accepted image) (b : Bytes image) where
       rw (held_at slot h) (little_below (size (entry listed slot)) (drop 7 (drop (offset listed slot) (drop 4 image)))
       (bytes_from 7 (drop (offset listed slot) (drop 4 image)) (bytes_from (offset listed slot) (drop 4 image) (bytes_from 4 image b))))
 
-  in_its_range : (slot : ℕ) → slot < configured → in_range (entry listed slot).range (get_or (configuration_in image) slot 0) ≡ Good
+  in_its_range : (slot : ℕ) → slot < configured → in_range (entry listed slot).range (get_or (configuration_in image) slot 0) ≡ Ok tt
   unfolding fits
   in_its_range slot h =
       only_good _ (rw (held_at slot h) (right_at listed (drop 4 image) a.walk.rights slot (omega (arith, all_listed))).fit)
@@ -178,6 +178,6 @@ module _ (image : List ℕ) (a : Accepted image) (b : Bytes image) where
   configuration_valid =
       record {
         sized = λ slot h. subst (λ (r : Range). get_or (configuration_in image) slot 0 < 256 ^ width r.kind) (entry_range slot h) (below_size slot h);
-        ranged = λ slot h. subst (λ (r : Range). in_range r (get_or (configuration_in image) slot 0) ≡ Good) (entry_range slot h) (in_its_range slot h);
+        ranged = λ slot h. subst (λ (r : Range). in_range r (get_or (configuration_in image) slot 0) ≡ Ok tt) (entry_range slot h) (in_its_range slot h);
         linked = λ slot h. order_linked (configuration_in image) a.order slot;
       }

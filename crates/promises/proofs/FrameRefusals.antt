@@ -37,7 +37,7 @@ use Rattle.promises.specs.FrameRefusals.{first_match, bytes_written, own_bytes, 
 -- ---- rows 7 to 9: the judgement, row by row
 
 judged_rows : (infinite above under up down : Bool) (slot word : ℕ)
-    → stored slot word (result_and (first infinite (Err fault.NotFinite) (first above (Err fault.Above) (first under (Err fault.Below) (Ok tt)))) (first up (Err fault.ChainUp) (first down (Err fault.ChainDown) (Ok tt))))
+    → stored slot word (result_and (first infinite (Err fault.NotFinite) (first above (Err fault.Above) (first under (Err fault.Below) (Ok (tt {0}))))) (first up (Err fault.ChainUp) (first down (Err fault.ChainDown) (Ok tt))))
     ≡ first infinite (Aborted abort.NotFinite) (first above (Aborted abort.Above) (first under (Aborted abort.Below) (first up (Aborted abort.ChainUp) (first down (Aborted abort.ChainDown) (Written slot word)))))
 unfolding first stored
 judged_rows true above under up down slot word = refl
@@ -93,7 +93,7 @@ unfolding at_sub first unknown_index
 sub_told [] sub = refl
 sub_told (s ∷ ss) sub = go (leb s.from sub && leb sub s.to) (sub_told ss sub)
   where
-    go : (b : Bool) → unknown_index (at_sub ss sub) ≡ false → unknown_index (first b (At (s.slot + (sub - s.from))) (at_sub ss sub)) ≡ false
+    go : (b : Bool) → unknown_index (at_sub ss sub) ≡ false → unknown_index (first b (Ok (At (s.slot + (sub - s.from)))) (at_sub ss sub)) ≡ false
     go true h = refl
     go false h = h
 
@@ -101,7 +101,7 @@ errors_known : (sub : ℕ) → unknown_index (find 0x1003 sub) ≡ false
 unfolding meant with_index stretches named first unknown_index
 errors_known sub = rw (← by_object Errors Errors 0x1003 sub refl (record { are = refl })) (go (eqb sub 0 && ltb 0 0))
   where
-    go : (b : Bool) → unknown_index (first b (Count (largest (meant Errors 0))) (at_sub (meant Errors 0) sub)) ≡ false
+    go : (b : Bool) → unknown_index (first b (Ok (Count (largest (meant Errors 0)))) (at_sub (meant Errors 0) sub)) ≡ false
     go true = refl
     go false = sub_told (meant Errors 0) sub
 
@@ -114,7 +114,7 @@ index_known unit index sub h =
 -- ---- row 2, and then by the command
 
 module _ (unit frame : List ℕ) where
-  name : Found
+  name : Result Named Missing
   name = find (index_in frame) (sub_in frame)
 
   above : Bool

@@ -21,7 +21,7 @@ both_good : (range chain : Result ⊤ Fault) → result_and range chain ≡ Ok t
 both_good (Ok x) chain e = (refl, e)
 both_good (Err fault) chain e = (e, cc)
 
-past_neither : (up down : Bool) → first up (Err ChainUp) (first down (Err ChainDown) (Ok tt)) ≡ Ok tt → (up ≡ false) × (down ≡ false)
+past_neither : (up down : Bool) → ◌≡◌ {A = Result ⊤ Fault} (first up (Err ChainUp) (first down (Err ChainDown) (Ok tt))) (Ok tt) → (up ≡ false) × (down ≡ false)
 unfolding first
 past_neither true down e = (cc, cc)
 past_neither false true e = (refl, cc)

@@ -25,7 +25,8 @@ use Rattle.dictionary.proofs.Unticked.{signals_behind, signals_before, words_sta
 use Rattle.roles.specs.Values.{range_of, starts, at_start}
 use Rattle.entries.specs.Judge.{number_of, finite, within, in_range}
 use Rattle.entries.specs.Valid.{Valid}
-use Rattle.std.specs.Prelude.{Ok, Err}
+use Rattle.std.specs.Prelude.{Result, Ok, Err, ⊤}
+use Rattle.entries.specs.declared.types.Fault.{Fault}
 use Rattle.entries.specs.declared.types.Fault.TheVariants.{Above, Below}
 use Rattle.sdo.specs.Answers.{answer}
 use Rattle.sdo.specs.declared.types.Answer.{Answer}
@@ -93,7 +94,7 @@ from_0 : (v : ℤ) → within v (pos 0) (pos 2500) ≡ Ok tt → pos 0 ≤ℤ v
 unfolding within first
 from_0 v e = by (below (pos 2500) v) (below v (pos 0)) refl e
   where
-    by : (t u : Bool) → below v (pos 0) ≡ u → first t (Err Above) (first u (Err Below) (Ok tt)) ≡ Ok tt → pos 0 ≤ℤ v
+    by : (t u : Bool) → below v (pos 0) ≡ u → ◌≡◌ {A = Result ⊤ Fault} (first t (Err Above) (first u (Err Below) (Ok tt))) (Ok tt) → pos 0 ≤ℤ v
     by t false q e = not_below_is_le v (pos 0) q
     by true true q e = let z : ◌≡◌ {A = ℕ} 0 1 = cc in absurd (omega arith)
     by false true q e = let z : ◌≡◌ {A = ℕ} 0 1 = cc in absurd (omega arith)
