@@ -16,14 +16,14 @@ use Rattle.output.proofs.turns.control.Goals.{After-look_up-signal}
 
 -- what the control is
 control : (s : After-look_up-signal) → let a = s.before.before.before.args in
-    let u = a.unit.now in
-    s.look_up-signal.result ≡ sourced u (byte u 0x2340 (a.k + 1)) (byte u 0x2341 (a.k + 1))
+    let u = a.output.unit.now in
+    s.look_up-signal.result ≡ sourced u (byte u 0x2340 (a.output.k + 1)) (byte u 0x2341 (a.output.k + 1))
 unfolding has
 control s = let a = s.before.before.before.args in
-    let u = a.unit.now in
-    let k = a.k in
-    let h : k < 4 = omega arith in
-    rw (← byte_is 0x2340 u k h s.before.before.byte_at.ensures refl, ← byte_is 0x2341 u k h s.before.byte_at-2.ensures refl) s.look_up-signal.ensures
+    let u = a.output.unit.now in
+    let k = a.output.k in
+    let h : k < 4 = a.output.is_one in
+    rw (← byte_is 0x2340 u k h s.before.before.byte.ensures refl, ← byte_is 0x2341 u k h s.before.byte-2.ensures refl) s.look_up-signal.ensures
 
 pub returns-then-failed : goal.returns-then-failed
 unfolding controlled first
