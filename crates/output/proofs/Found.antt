@@ -8,7 +8,7 @@ use lib.Dec.{eqb}
 use lib.IntN.{ℤ}
 use lib.Signed.{mag, lt_z}
 use mir.Syntax.{w16}
-use mir.Val.{SFits, bool_byte, to_z, of_z}
+use mir.Val.{SFits, to_z, of_z}
 use mir.Facts.{to_z-of_z}
 use Rattle.std.specs.Int.{int_max, int_min}
 use Rattle.numbers.specs.Choice.{first}
@@ -49,8 +49,3 @@ alike_is true true = refl
 alike_is true false = refl
 alike_is false true = refl
 alike_is false false = refl
-
-pub flag_is : (on : Bool) → bool_byte on ≡ first on 1 0
-unfolding first
-flag_is true = refl
-flag_is false = refl

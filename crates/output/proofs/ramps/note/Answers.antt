@@ -10,7 +10,7 @@ use mir.Val.{SFits}
 use Rattle.numbers.specs.Choice.{first}
 use Rattle.dictionary.specs.Unit.{ramp_start_at, ramp_rising_at, ramp_fv1_at, ramp_fv2_at, ramp_used_at}
 use Rattle.output.specs.Outputs.{noted}
-use Rattle.output.proofs.Found.{flag_is}
+use Rattle.unit.proofs.Flags.{flag_is}
 use borrow.Author.Rules.{rules}
 use Rattle.output.proofs.ramps.note.Goals as goal
 use Rattle.output.proofs.ramps.note.Goals.{After-struct_told-1, After-struct_told-2-1, After-struct_told-3-1}
