@@ -12,6 +12,7 @@ use dictionary::slots::{
     FAULT_FV, FAULT_MODE, OVERRIDE_FV, OVERRIDE_NUMBER, OVERRIDE_RESPONSE, OVERRIDE_SOURCE, Unit,
 };
 use signals::reading::{absent, as_whole, failed};
+use unit::pairs::pair_at;
 use unit::sources::look_up;
 use unit::words::{byte_at, whole_at};
 
@@ -30,11 +31,7 @@ fn control(unit: &Unit, k: usize) -> Motion
     requires { k < 4 }
     ensures { result ≡ controlled unit.now (k + 1) }
 {
-    let signal = look_up(
-        unit,
-        byte_at(unit, CONTROL_SOURCE + k),
-        byte_at(unit, CONTROL_NUMBER + k),
-    );
+    let signal = look_up(unit, pair_at(unit, CONTROL_SOURCE + k, CONTROL_NUMBER + k));
     if failed(signal) {
         return rest(fault(unit, k));
     }
@@ -51,8 +48,7 @@ fn override_or_control(unit: &Unit, k: usize) -> Motion
 {
     let over = look_up(
         unit,
-        byte_at(unit, OVERRIDE_SOURCE + k),
-        byte_at(unit, OVERRIDE_NUMBER + k),
+        pair_at(unit, OVERRIDE_SOURCE + k, OVERRIDE_NUMBER + k),
     );
     if turned_on(byte_at(unit, OVERRIDE_RESPONSE + k), over) {
         return rest(whole_at(unit, OVERRIDE_FV + k));
@@ -68,11 +64,7 @@ fn drive(unit: &Unit, k: usize) -> Motion
     requires { k < 4 }
     ensures { result ≡ driven_of unit.now (k + 1) }
 {
-    let enable = look_up(
-        unit,
-        byte_at(unit, ENABLE_SOURCE + k),
-        byte_at(unit, ENABLE_NUMBER + k),
-    );
+    let enable = look_up(unit, pair_at(unit, ENABLE_SOURCE + k, ENABLE_NUMBER + k));
     if turned_off(byte_at(unit, ENABLE_RESPONSE + k), enable) {
         return rest(0);
     }

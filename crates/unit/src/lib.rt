@@ -2,5 +2,6 @@
 #![tactic(auto)]
 
 pub mod laying;
+pub mod pairs;
 pub mod sources;
 pub mod words;
