@@ -28,11 +28,7 @@ fn fault(output: Row<'_, 4>) -> i16
 fn control(output: Row<'_, 4>) -> Motion
     ensures { result ≡ controlled output.entry.unit.now (output.entry.k + 1) }
 {
-    let signal = look_up(
-        output.unit,
-        output.byte(CONTROL_SOURCE),
-        output.byte(CONTROL_NUMBER),
-    );
+    let signal = look_up(output.unit, output.pair(CONTROL_SOURCE, CONTROL_NUMBER));
     if failed(signal) {
         return rest(fault(output));
     }
@@ -46,11 +42,7 @@ fn control(output: Row<'_, 4>) -> Motion
 fn override_or_control(output: Row<'_, 4>) -> Motion
     ensures { result ≡ overridden output.entry.unit.now (output.entry.k + 1) }
 {
-    let over = look_up(
-        output.unit,
-        output.byte(OVERRIDE_SOURCE),
-        output.byte(OVERRIDE_NUMBER),
-    );
+    let over = look_up(output.unit, output.pair(OVERRIDE_SOURCE, OVERRIDE_NUMBER));
     if turned_on(output.byte(OVERRIDE_RESPONSE), over) {
         return rest(output.whole(OVERRIDE_FV));
     }
@@ -64,11 +56,7 @@ fn override_or_control(output: Row<'_, 4>) -> Motion
 fn drive(output: Row<'_, 4>) -> Motion
     ensures { result ≡ driven_of output.entry.unit.now (output.entry.k + 1) }
 {
-    let enable = look_up(
-        output.unit,
-        output.byte(ENABLE_SOURCE),
-        output.byte(ENABLE_NUMBER),
-    );
+    let enable = look_up(output.unit, output.pair(ENABLE_SOURCE, ENABLE_NUMBER));
     if turned_off(output.byte(ENABLE_RESPONSE), enable) {
         return rest(0);
     }

@@ -2,6 +2,7 @@
 ghost use Rattle.std.specs.Prelude.{◌≡◌, not, ◌+◌, ◌%◌, ◌<◌, ◌≤◌, eqb, get_or};
 ghost use Rattle.numbers.specs.Signed.{signed16};
 
+use crate::pairs::{Pair, pair_at};
 use crate::words::{byte_at, switched_at, time_at, whole_at};
 use dictionary::slots::{UNIT, Unit};
 
@@ -40,5 +41,12 @@ impl<'a, const COUNT: usize> Row<'a, COUNT> {
         ensures { result ≡ not (eqb (get_or self.entry.unit.now (first + self.entry.k) 0 % 0x100) 0) }
     {
         switched_at(self.unit, first + self.k)
+    }
+
+    pub fn pair(self, source: usize, number: usize) -> Pair
+        requires { (source + COUNT ≤ UNIT) × (number + COUNT ≤ UNIT) }
+        ensures { result ≡ record { source = get_or self.entry.unit.now (source + self.entry.k) 0 % 0x100; number = get_or self.entry.unit.now (number + self.entry.k) 0 % 0x100 } }
+    {
+        pair_at(self.unit, source + self.k, number + self.k)
     }
 }
