@@ -16,6 +16,7 @@ use numbers::signed::pattern;
 use signals::reading::{absent, as_real, as_whole};
 use signals::signal::Signal;
 use unit::laying::lay;
+use unit::pairs::{Pair, pair_at};
 use unit::sources::look_up;
 use unit::words::{byte_at, switched_at};
 
@@ -23,11 +24,7 @@ fn argument_at(unit: &Unit, at: u32) -> Signal
     requires { at < 65536 }
     ensures { result ≡ argument_at unit.now at }
 {
-    look_up(
-        unit,
-        byte_at(unit, at as usize),
-        byte_at(unit, at as usize + 1),
-    )
+    look_up(unit, pair_at(unit, at as usize, at as usize + 1))
 }
 
 fn digits_at(unit: &Unit, at: u32) -> u8
@@ -136,7 +133,7 @@ pub fn logics(unit: &mut Unit)
 {
     for k in 0..2 {
         let number = selected(unit, k);
-        let signal = look_up(unit, 3, number);
+        let signal = look_up(unit, Pair { source: 3, number });
         unit[LOGIC_SELECTED + k] = number as u32;
         unit[LOGIC_VALUE + k] = pattern(as_whole(signal));
         lay(unit, 14 + k, signal);

@@ -15,6 +15,7 @@ use signals::keeping::number_of;
 use signals::reading::{absent, as_real};
 use signals::signal::Signal;
 use unit::laying::lay;
+use unit::pairs::pair_at;
 use unit::sources::look_up;
 use unit::words::{byte_at, switched_at, whole_at};
 
@@ -27,8 +28,7 @@ fn operand(unit: &Unit, k: usize, i: usize) -> Operand
     Operand {
         signal: as_real(look_up(
             unit,
-            byte_at(unit, OPERAND_SOURCE + at),
-            byte_at(unit, OPERAND_NUMBER + at),
+            pair_at(unit, OPERAND_SOURCE + at, OPERAND_NUMBER + at),
         )),
         from: whole_at(unit, OPERAND_FROM + at),
         to: whole_at(unit, OPERAND_TO + at),

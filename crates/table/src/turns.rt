@@ -11,8 +11,8 @@ use numbers::signed::pattern;
 use signals::reading::as_whole;
 use signals::signal::Signal;
 use unit::laying::lay;
+use unit::pairs::pair_at;
 use unit::sources::look_up;
-use unit::words::byte_at;
 
 // Eleven words from each of three slots.
 fn curve(unit: &[u32], signal: Signal, response: usize, x: usize, y: usize) -> Signal
@@ -35,11 +35,7 @@ fn signal_of(unit: &Unit, k: usize) -> Signal
     ensures { result ≡ table_signal unit.now (k + 1) }
 {
     let row = (TABLE_ENTRIES as u32 * k as u32) as usize;
-    let signal = look_up(
-        unit,
-        byte_at(unit, TABLE_SOURCE + row),
-        byte_at(unit, TABLE_NUMBER + row),
-    );
+    let signal = look_up(unit, pair_at(unit, TABLE_SOURCE + row, TABLE_NUMBER + row));
     curve(
         unit,
         signal,

@@ -11,7 +11,7 @@ use Rattle.numbers.specs.Choice.{first}
 use Rattle.dictionary.specs.Unit.{ticked_at}
 use Rattle.controller.specs.Commands.{rule_for}
 use Rattle.why.specs.Answer.{no_output, no_tick, answered, decider, decided, explained, Explained}
-use Rattle.why.specs.declared.types.Pair.{Pair}
+use Rattle.unit.specs.declared.pairs.Pair.{Pair}
 use Rattle.why.specs.declared.types.Why.TheVariants.{NoOutput, NoTick, Told}
 
 module _ (unit : List ℕ) (n : ℕ) where

@@ -17,7 +17,7 @@ use Rattle.signals.specs.declared.signal.Signal.{Signal}
 use Rattle.signals.specs.declared.signal.Signal.TheVariants.{Whole, Real, Error, Absent}
 use Rattle.why.specs.Answer.{end_number, value, pairs, trail_bytes, signal, signal_bytes, decided, Followed}
 use Rattle.why.specs.Trail.{trail}
-use Rattle.why.specs.declared.types.Pair.{Pair}
+use Rattle.unit.specs.declared.pairs.Pair.{Pair}
 use Rattle.why.specs.declared.types.Walked.{Walked}
 
 pub kind_small : (s : Signal) {kind : ℕ} → kind ≡ kind_of s → kind < 256

@@ -16,7 +16,7 @@ use Rattle.why.specs.Trail.{Trail, next, after, stepped, follow, trail}
 use Rattle.why.specs.declared.types.End.TheVariants.{Earlier}
 use Rattle.why.specs.declared.types.Next.{Next}
 use Rattle.why.specs.declared.types.Next.TheVariants.{Ends, Reads}
-use Rattle.why.specs.declared.types.Pair.{Pair}
+use Rattle.unit.specs.declared.pairs.Pair.{Pair}
 use Rattle.why.specs.declared.types.Why.{Why}
 use Rattle.why.specs.declared.types.Why.TheVariants.{NoOutput, NoTick, Told}
 use Rattle.why.proofs.Bytes.{twice}

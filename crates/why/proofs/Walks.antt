@@ -15,7 +15,7 @@ use Rattle.why.specs.declared.types.End.{End}
 use Rattle.why.specs.declared.types.End.TheVariants.{Earlier}
 use Rattle.why.specs.declared.types.Next.{Next}
 use Rattle.why.specs.declared.types.Next.TheVariants.{Ends, Reads}
-use Rattle.why.specs.declared.types.Pair.{Pair}
+use Rattle.unit.specs.declared.pairs.Pair.{Pair}
 use Rattle.why.specs.declared.types.Walked.{Walked}
 
 -- what is left after i steps comes to the whole

@@ -13,7 +13,7 @@ use Rattle.signals.specs.declared.signal.Signal.TheVariants.{Whole, Real, Error,
 use Rattle.unit.specs.Sources.{sourced}
 use Rattle.controller.specs.Commands.{rule_for}
 use Rattle.why.specs.Trail.{Trail, pair, trail}
-use Rattle.why.specs.declared.types.Pair.{Pair}
+use Rattle.unit.specs.declared.pairs.Pair.{Pair}
 use Rattle.why.specs.declared.types.End.{End}
 use Rattle.why.specs.declared.types.End.TheVariants.{Flagged, Divided, Earlier}
 use Rattle.why.specs.declared.types.Walked.{Walked}

@@ -11,8 +11,8 @@ ghost use Rattle.why.specs.Trail as steps;
 ghost use Rattle.why.specs.Seen.{block_of};
 
 use crate::seeing::block_of;
-use crate::trailing::{follow, pair_at};
-use crate::types::{Pair, Why};
+use crate::trailing::follow;
+use crate::types::Why;
 use dictionary::slots::{
     CONTROL_NUMBER, CONTROL_SOURCE, ENABLE_NUMBER, ENABLE_RESPONSE, ENABLE_SOURCE, OVERRIDE_NUMBER,
     OVERRIDE_RESPONSE, OVERRIDE_SOURCE, TICKED, Unit,
@@ -22,6 +22,7 @@ use output::turning::{turned_off, turned_on};
 use signals::keeping::{kind_of, number_of};
 use signals::reading::{absent, failed};
 use signals::signal::Signal;
+use unit::pairs::{Pair, pair_at};
 use unit::sources::look_up;
 use unit::words::byte_at;
 
@@ -75,7 +76,7 @@ fn control_of(unit: &Unit, k: usize) -> Pair
 fn signal_of(unit: &Unit, pair: Pair) -> Signal
     ensures { result ≡ spec.signal unit.now pair }
 {
-    look_up(unit, pair.source, pair.number)
+    look_up(unit, pair)
 }
 
 fn rule_of(unit: &Unit, k: usize) -> u8

@@ -6,24 +6,15 @@ ghost use Rattle.why.specs.Trail as spec;
 ghost use Rattle.why.specs.Trail.{math_next};
 
 use crate::seeing::{block_of, seen};
-use crate::types::{End, Next, Pair, Walked};
+use crate::types::{End, Next, Walked};
 use dictionary::slots::{
     LOGIC_SELECTED, MATH_ENTRIES, OPERAND_NUMBER, OPERAND_SOURCE, TABLE_ENTRIES, TABLE_NUMBER,
     TABLE_SOURCE, Unit,
 };
 use octets::putting::put;
 use signals::reading::failed;
+use unit::pairs::{Pair, pair_at};
 use unit::words::byte_at;
-
-// Words past the last read 0.
-pub fn pair_at(unit: &Unit, source: usize, number: usize) -> Pair
-    ensures { result ≡ record { source = get_or unit.now source 0 % 0x100; number = get_or unit.now number 0 % 0x100 } }
-{
-    Pair {
-        source: byte_at(unit, source),
-        number: byte_at(unit, number),
-    }
-}
 
 // Input i + 1 of math k + 1.
 fn math_pair(unit: &Unit, k: usize, i: usize) -> Pair

@@ -5,4 +5,4 @@ use Rattle.logic.proofs.turns.argument_at.Goals as goal
 
 pub returns : goal.returns
 unfolding argument_at
-returns c = rw (c.look_up.ensures, c.byte_at-2.ensures, c.byte_at.ensures)
+returns c = rw (c.look_up.ensures, c.pair_at.ensures)

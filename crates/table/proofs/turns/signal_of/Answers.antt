@@ -19,6 +19,5 @@ returns c =
       table_array 0x3006 refl k (omega arith),
       c.curve.ensures,
       c.look_up-signal.ensures,
-      c.byte_at-2.ensures,
-      c.byte_at.ensures,
+      c.pair_at.ensures,
     )
