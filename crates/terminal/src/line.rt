@@ -13,8 +13,7 @@ pub struct Line {
 
 impl Line {
     pub fn new() -> Line
-        ensures room { result.bytes ≡ replicate 65 0 }
-        ensures none { result.held ≡ 0 }
+        ensures { result ≡ record { bytes = replicate 65 0; held = 0 } }
     {
         Line {
             bytes: [0; LINE],
