@@ -1,20 +1,14 @@
 // The files that the command is given: images to read, and a list to write, all of it or nothing.
 ghost use Rattle.std.specs.Prelude.{◌≤◌, length, IfOk};
 
-use super::buffer::{Buffer, ROOM, front, put, put_byte, put_hex, put_shown};
-use octets::little::four_at;
+use super::Undone;
+use super::buffer::{Buffer, ROOM};
 use std::env::{Env, FillError};
+use std::fmt::Write as FmtWrite;
 use std::fs::{File, OpenOptions, remove_file, rename};
 use std::io::{Error, Read, Write};
 use std::random::RandomSource;
 use std::{io, str};
-
-// How many bytes there are, and whether more are wanted.
-#[derive(Clone, Copy)]
-struct Fetched {
-    length: usize,
-    more: bool,
-}
 
 // What Linux calls these failures by number.
 const INVALID_ARGUMENT: i32 = 22;
@@ -23,28 +17,25 @@ const NAME_TOO_LONG: i32 = 36;
 
 const NOT_TEXT: i32 = 84;
 
-// Where the number stands that an error of the system is shown with.
-fn reason_end(text: &[u8]) -> usize
-    ensures { result ≤ length text.now }
-{
-    for k in 0..text.len() {
-        if text[k..].starts_with(b" (os error ") {
-            return k;
-        }
+// The words of an error of the system, without its number.
+fn words_of(reason: &[u8]) -> &[u8] {
+    let number: &[u8] = b" (os error ";
+    match reason.windows(number.len()).position(|part| part == number) {
+        Some(end) => &reason[..end],
+        None => reason,
     }
-    text.len()
 }
 
 // A line on standard error: what failed, and why.
-fn fail(rt: &HostRuntime, what: &[u8], error: Error) {
-    let mut reason = [0u8; ROOM];
-    let shown = put_shown(&mut reason, 0, &error);
-    let text = front(&reason, shown);
+fn fail(rt: &HostRuntime, what: &[u8], error: Error) -> Undone {
+    let mut reason = Buffer::new();
+    let _ = write!(reason, "{error}");
     let errors = rt.stderr();
     let _ = Print::write_all(&errors, what);
     let _ = Print::write_all(&errors, b": ");
-    let _ = Print::write_all(&errors, &text[..reason_end(text)]);
+    let _ = Print::write_all(&errors, words_of(reason.bytes()));
     let _ = Print::write_all(&errors, b"\n");
+    Undone
 }
 
 // How long the argument is.
@@ -60,66 +51,33 @@ pub fn argument(rt: &impl Env, at: usize, word: &mut [u8]) -> io::Result<usize>
 
 // A file's name has to be UTF-8.
 fn name_in(path: &[u8]) -> io::Result<&str> {
-    match str::from_utf8(path) {
-        Ok(name) => Ok(name),
-        Err(_) => Err(Error::from_raw_os_error(NOT_TEXT)),
-    }
-}
-
-// Reads once.
-fn read_on<R: Read>(file: &mut R, image: &mut Buffer, length: usize) -> io::Result<Fetched> {
-    let mut piece = [0u8; 4096];
-    let n = file.read(&mut piece)?;
-    let next = put(image, length, &piece[..n]);
-    Ok(Fetched {
-        length: next,
-        more: n > 0 && next < ROOM,
-    })
+    str::from_utf8(path).map_err(|_| Error::from_raw_os_error(NOT_TEXT))
 }
 
 // To the file's end, or until there are more bytes than an image has; each read brings one or more.
-fn read_all<R: Read>(file: &mut R, image: &mut Buffer) -> io::Result<usize> {
-    let mut here = Fetched {
-        length: 0,
-        more: true,
-    };
-    let mut turns: usize = 0;
-    while turns < ROOM {
-        here = read_on(file, image, here.length)?;
-        if !here.more {
-            return Ok(here.length);
+fn read_all<R: Read>(file: &mut R) -> io::Result<Buffer> {
+    let mut image = Buffer::new();
+    for _ in 0..ROOM {
+        let mut piece = [0u8; 4096];
+        let n = file.read(&mut piece)?;
+        image.put(&piece[..n]);
+        if n == 0 || image.is_full() {
+            break;
         }
-        turns += 1;
     }
-    Ok(here.length)
+    Ok(image)
 }
 
-fn read_file(rt: &HostRuntime, path: &[u8], image: &mut Buffer) -> io::Result<usize> {
+fn read_file(rt: &HostRuntime, path: &[u8]) -> io::Result<Buffer> {
     let mut file = File::open(rt, name_in(path)?)?;
-    read_all(&mut file, image)
+    read_all(&mut file)
 }
 
-// How many bytes there are, if the file can be read; where it cannot, that is told.
-fn fetch_from(rt: &HostRuntime, path: &[u8], image: &mut Buffer) -> Option<usize> {
-    match read_file(rt, path, image) {
-        Ok(length) => Some(length),
-        Err(error) => {
-            fail(rt, path, error);
-            None
-        }
-    }
-}
-
-// The file that this argument names.
-pub fn fetch(rt: &HostRuntime, at: usize, image: &mut Buffer) -> Option<usize> {
+// What is in the file that this argument names.
+pub fn fetch(rt: &HostRuntime, at: usize) -> Result<Buffer, Undone> {
     let mut path = [0u8; 4096];
-    match argument(rt, at, &mut path) {
-        Ok(n) => fetch_from(rt, &path[..n], image),
-        Err(error) => {
-            fail(rt, b"file name", error);
-            None
-        }
-    }
+    let n = argument(rt, at, &mut path).map_err(|error| fail(rt, b"file name", error))?;
+    read_file(rt, &path[..n]).map_err(|error| fail(rt, &path[..n], error))
 }
 
 // All of it is in the file, and the file is on the disk.
@@ -159,38 +117,24 @@ fn write_beside(rt: &HostRuntime, name: &str, beside: &str, list: &[u8]) -> io::
     written
 }
 
-fn replace(rt: &HostRuntime, path: &[u8], beside: &[u8], list: &[u8]) -> io::Result<()> {
-    write_beside(rt, name_in(path)?, name_in(beside)?, list)
-}
-
 // The new file's name has a number that no other file should have; `create` would refuse a name that is taken.
-fn keep_as(rt: &HostRuntime, path: &[u8], list: &[u8]) -> bool {
-    let mut chance = [0u8; 4];
-    if let Err(error) = rt.fill_bytes(&mut chance) {
-        fail(rt, b"list", error);
-        return false;
-    }
-    let mut beside = [0u8; ROOM];
-    let mut at = put(&mut beside, 0, path);
-    at = put_byte(&mut beside, at, b'.');
-    at = put_hex(&mut beside, at, four_at(&chance, 0) as u64);
-    match replace(rt, path, front(&beside, at), list) {
-        Ok(()) => true,
-        Err(error) => {
-            fail(rt, path, error);
-            false
-        }
-    }
+fn replace(rt: &HostRuntime, path: &[u8], chance: u32, list: &[u8]) -> io::Result<()> {
+    let mut beside = Buffer::new();
+    beside.put(path);
+    let _ = write!(beside, ".{chance:04x}");
+    write_beside(rt, name_in(path)?, name_in(beside.bytes())?, list)
 }
 
-// To the file that this argument names; whether it is there.
-pub fn keep(rt: &HostRuntime, at: usize, list: &[u8]) -> bool {
+// To the file that this argument names.
+pub fn keep(rt: &HostRuntime, at: usize, list: &[u8]) -> Result<(), Undone> {
     let mut path = [0u8; 4096];
-    match argument(rt, at, &mut path) {
-        Ok(n) => keep_as(rt, &path[..n], list),
-        Err(error) => {
-            fail(rt, b"list", error);
-            false
-        }
-    }
+    let n = argument(rt, at, &mut path).map_err(|error| fail(rt, b"list", error))?;
+    let mut chance = [0u8; 4];
+    rt.fill_bytes(&mut chance)
+        .map_err(|error| fail(rt, b"list", error))?;
+    replace(rt, &path[..n], u32::from_le_bytes(chance), list).map_err(|error| fail(
+        rt,
+        &path[..n],
+        error,
+    ))
 }

@@ -12,15 +12,19 @@ mod words;
 ghost use Rattle.std.specs.Prelude.{◌≡◌};
 ghost use Rattle.records.specs.Walk.{number};
 
-use buffer::{Buffer, ROOM, front, put, put_decimal};
+use buffer::ROOM;
 use files::{argument, fetch, keep};
 use lists::make_list;
 use lists::types::Made;
 use octets::little::four_at;
 use records::types::Refusal;
-use rows::{put_row, row_of};
 use showing::show;
-use std::env::{Env, FillError};
+use std::env::Env;
+use terminal::arguments::is_given;
+
+// What was asked for is not done; why is told already, where it can be.
+#[derive(Clone, Copy)]
+pub struct Undone;
 
 // The paper's number.
 fn number_of(why: Refusal) -> u8
@@ -38,105 +42,68 @@ fn number_of(why: Refusal) -> u8
     }
 }
 
-fn put_reason(line: &mut Buffer, at: usize, why: Refusal) -> usize {
-    let row = row_of(
-        b"1 it ends early
-2 it does not count 611 records
-3 a record is not that of the next entry
-4 a record has the wrong size
-5 a value is out of its range
-6 two values are not in order
-7 there are bytes behind the last record
-8 there is no room
-",
-        &[b'0' + number_of(why) % 10],
-    );
-    put_row(line, at, row, 2, 0, 0)
-}
-
-fn refuse(rt: &impl Print, what: &[u8], why: Refusal) {
-    let mut line = [0u8; ROOM];
-    let mut at = put(&mut line, 0, what);
-    at = put(&mut line, at, b" refused, ");
-    at = put_decimal(&mut line, at, number_of(why) as u64);
-    at = put(&mut line, at, b": ");
-    at = put_reason(&mut line, at, why);
-    at = put(&mut line, at, b"\n");
-    let _ = rt.write_all(front(&line, at));
-}
-
-fn count(rt: &impl Print, list: &[u8]) -> bool {
-    let mut line = [0u8; ROOM];
-    let mut at = put_decimal(&mut line, 0, four_at(list, 0) as u64);
-    at = put(&mut line, at, b" records, ");
-    at = put_decimal(&mut line, at, list.len() as u64);
-    at = put(&mut line, at, b" bytes\n");
-    rt.write_all(front(&line, at)).is_ok()
-}
-
-// Whether all was done that is asked for.
-fn use_list(rt: &HostRuntime, current: &[u8], list: &[u8], shown: bool) -> bool {
-    if shown {
-        return show(rt, current, list);
-    }
-    keep(rt, 3, list) && count(rt, list)
-}
-
-fn restore(rt: &HostRuntime, current: &[u8], wanted: &[u8], shown: bool) {
-    let mut list = [0u8; ROOM];
-    match make_list(current, wanted, &mut list) {
-        Made::Done(long) => {
-            if use_list(rt, current, front(&list, long), shown) {
-                let _ = rt.write_all(b"done\n");
-            }
-        }
-        Made::Current(why) => refuse(rt, b"current image", why),
-        Made::Wanted(why) => refuse(rt, b"wanted image", why),
-        Made::NoRoom => refuse(rt, b"list", Refusal::NoRoom),
+fn words_of(why: Refusal) -> &'static str {
+    match why {
+        Refusal::EndedEarly => "it ends early",
+        Refusal::WrongCount => "it does not count 611 records",
+        Refusal::NotNext => "a record is not that of the next entry",
+        Refusal::WrongSize => "a record has the wrong size",
+        Refusal::OutOfRange => "a value is out of its range",
+        Refusal::OutOfOrder => "two values are not in order",
+        Refusal::LeftOver => "there are bytes behind the last record",
+        Refusal::NoRoom => "there is no room",
     }
 }
 
-fn restore_files(rt: &HostRuntime, first: usize, second: usize, shown: bool) {
-    let mut current = [0u8; ROOM];
-    let mut wanted = [0u8; ROOM];
-    let Some(a) = fetch(rt, first, &mut current) else {
-        return;
-    };
-    let Some(b) = fetch(rt, second, &mut wanted) else {
-        return;
-    };
-    restore(rt, front(&current, a), front(&wanted, b), shown);
+fn refuse(rt: &impl Print, what: &str, why: Refusal) -> Undone {
+    let number = number_of(why);
+    let words = words_of(why);
+    let _ = println!(rt; "{what} refused, {number}: {words}");
+    Undone
 }
 
-fn is_same(a: &[u8], b: &[u8]) -> bool {
-    if a.len() != b.len() {
-        return false;
+fn count(rt: &impl Print, list: &[u8]) -> Result<(), Undone> {
+    let records = four_at(list, 0);
+    let bytes = list.len();
+    println!(rt; "{records} records, {bytes} bytes").map_err(|_| Undone)
+}
+
+// How long the list is; where there is none, why is told.
+fn length_of(rt: &impl Print, made: Made) -> Result<usize, Undone> {
+    match made {
+        Made::Done(long) => Ok(long),
+        Made::Current(why) => Err(refuse(rt, "current image", why)),
+        Made::Wanted(why) => Err(refuse(rt, "wanted image", why)),
+        Made::NoRoom => Err(refuse(rt, "list", Refusal::NoRoom)),
     }
-    let mut k: usize = 0;
-    while k < a.len() {
-        if a[k] != b[k] {
-            return false;
-        }
-        k += 1;
-    }
-    true
 }
 
 // The program's own name is argument 0.
 fn has_argument(rt: &impl Env, at: usize) -> bool {
-    let mut word = [0u8; 1];
-    match rt.arg(at, &mut word) {
-        Ok(_) | Err(FillError::TooLong) => true,
-        Err(FillError::NotPresent) => false,
-    }
+    is_given(rt.arg(at, &mut [0u8; 1]))
 }
 
 fn is_argument(rt: &impl Env, at: usize, wanted: &[u8]) -> bool {
     let mut word = [0u8; 4096];
     match argument(rt, at, &mut word) {
-        Ok(n) => is_same(&word[..n], wanted),
+        Ok(n) => &word[..n] == wanted,
         Err(_) => false,
     }
+}
+
+fn restore(rt: &HostRuntime) -> Result<(), Undone> {
+    let shown = is_argument(rt, 1, b"--show");
+    let (first, second) = if shown { (2, 3) } else { (1, 2) };
+    let current = fetch(rt, first)?;
+    let wanted = fetch(rt, second)?;
+    let mut room = [0u8; ROOM];
+    let long = length_of(rt, make_list(current.bytes(), wanted.bytes(), &mut room))?;
+    let list = room.get(..long).ok_or(Undone)?;
+    if shown {
+        return show(rt, current.bytes(), list);
+    }
+    keep(rt, 3, list)?;
+    count(rt, list)
 }
 
 fn main(rt: HostRuntime) {
@@ -144,9 +111,7 @@ fn main(rt: HostRuntime) {
         let _ = eprintln!(rt; "restore CURRENT WANTED LIST, or restore --show CURRENT WANTED");
         return;
     }
-    if is_argument(&rt, 1, b"--show") {
-        restore_files(&rt, 2, 3, true);
-        return;
+    if restore(&rt).is_ok() {
+        let _ = println!(rt; "done");
     }
-    restore_files(&rt, 1, 2, false);
 }

@@ -1,13 +1,16 @@
 // What an entry is, in the words of the paper's table of names.
-use super::buffer::{Buffer, ROOM, front, put_key};
-use super::rows::{put_row, row_of};
+use super::rows::words_of;
+use std::fmt;
+
+// An entry by its index and sub.
+#[derive(Clone, Copy)]
+pub struct Name {
+    pub index: u16,
+    pub sub: u8,
+}
 
 // The key is the index with the sub as a fifth digit; the first row that has it counts.
-pub fn put_entry(line: &mut Buffer, at: usize, index: u16, sub: u8) -> usize {
-    let mut key = [0u8; ROOM];
-    let n = put_key(&mut key, 0, index as u32 * 0x10 + sub as u32 % 0x10);
-    let row = row_of(
-        b"2502? EC #, digits
+const WORDS: &[u8] = b"2502? EC #, digits
 2520? EC #, scaling 1
 2522? EC #, scaling 2
 6132? input #, digits
@@ -70,8 +73,39 @@ pub fn put_entry(line: &mut Buffer, at: usize, index: u16, sub: u8) -> usize {
 2360? output #, override source
 2361? output #, override number
 2362? output #, override response
-",
-        front(&key, n),
-    );
-    put_row(line, at, row, 6, index, sub)
+";
+
+impl Name {
+    fn words(self) -> &'static [u8] {
+        let [low, high] = self.index.to_le_bytes();
+        let key = [high / 16, high % 16, low / 16, low % 16, self.sub % 16];
+        words_of(WORDS, &key)
+    }
+
+    // A mark in the words stands for a part of the name: # the sub, @ ^ ~ the second, third and fourth digit of the index, & the third as a
+    // letter, % the number of a math block, which is 5 less than the second.
+    fn tell_mark<W: fmt::Write>(self, f: &mut fmt::Formatter<W>, mark: u8) -> fmt::Result {
+        let [low, high] = self.index.to_le_bytes();
+        let number = match mark {
+            b'#' => self.sub,
+            b'@' => high % 16,
+            b'%' => (high % 16 + 11) % 16,
+            b'^' => low / 16,
+            b'~' => low % 16,
+            b'&' => return f.write_char(char::from(b'@' + low / 16)),
+            _ => return f.write_char(char::from(mark)),
+        };
+        write!(f, "{number}")
+    }
+}
+
+impl fmt::Display for Name {
+    fn fmt<W: fmt::Write>(&self, f: &mut fmt::Formatter<W>) -> fmt::Result {
+        let Name { index, sub } = *self;
+        write!(f, "{index:04x}h:{sub} ")?;
+        for mark in self.words() {
+            self.tell_mark(f, *mark)?;
+        }
+        Ok(())
+    }
 }

@@ -7,66 +7,52 @@ mod hearing;
 mod saying;
 mod telling;
 
-ghost use Rattle.std.specs.Prelude.{◌≤◌, length};
-
 use hearing::hear_all;
 use roles::start::start;
-use saying::say;
-use std::env::{Env, FillError};
-use telling::tell;
+use std::env::Env;
+use telling::Account;
+use terminal::arguments::is_given;
 use why::asking::why;
 use why::types::{TRAIL, Why};
 
 // The output that a word names; 0 where it is no digit.
 fn number_in(word: &[u8]) -> u8 {
-    if word.len() != 1 {
-        return 0;
+    match word {
+        [digit] => digit.saturating_sub(b'0'),
+        _ => 0,
     }
-    if word[0] < b'0' {
-        return 0;
-    }
-    word[0] - b'0'
 }
 
 // The program's own name is argument 0.
 fn has_argument(rt: &impl Env, at: usize) -> bool {
-    let mut word = [0u8; 1];
-    match rt.arg(at, &mut word) {
-        Ok(_) | Err(FillError::TooLong) => true,
-        Err(FillError::NotPresent) => false,
-    }
+    is_given(rt.arg(at, &mut [0u8; 1]))
 }
 
-// How long the argument is; 0 where there is no room for it.
-fn argument(rt: &impl Env, at: usize, word: &mut [u8]) -> usize
-    ensures { result ≤ length word.new }
-{
-    match rt.arg(at, word) {
-        Ok(n) => n,
-        Err(_) => 0,
-    }
-}
-
+// What cannot be written is lost.
 fn main(rt: HostRuntime) {
     if !has_argument(&rt, 1) || has_argument(&rt, 2) {
         let _ = eprintln!(rt; "service OUTPUT");
         return;
     }
     let mut word = [0u8; 4096];
-    let n = argument(&rt, 1, &mut word);
+    let n = rt.arg(1, &mut word).unwrap_or(0);
     let output = number_in(&word[..n]);
     let mut unit = start();
     hear_all(&mut rt.stdin(), &mut unit);
     let mut trail = [0u8; TRAIL];
-    match why(&unit, output, &mut trail) {
-        Why::NoOutput => say(&rt, b"there is no such output: there are 1 to 4\n"),
-        Why::NoTick => say(
-            &rt,
-            b"there was no tick since the start or the last accepted write\n",
-        ),
-        Why::Told(rule) => {
-            tell(&rt, &unit, output, rule, &trail);
-            say(&rt, b"done\n");
+    let _ = match why(&unit, output, &mut trail) {
+        Why::NoOutput => println!(rt; "there is no such output: there are 1 to 4"),
+        Why::NoTick => {
+            println!(rt; "there was no tick since the start or the last accepted write")
         }
-    }
+        Why::Told(rule) => {
+            let account = Account {
+                unit: &unit,
+                output,
+                rule,
+                trail: &trail,
+            };
+            println!(rt; "{account}done")
+        }
+    };
 }

@@ -1,326 +1,328 @@
 // The answer in words: a line for the rule, and for an error a line for each step of its trail, each with the entries that matter.
 ghost use Rattle.std.specs.Prelude.{◌<◌};
 
-use super::saying::{
-    is_there, say, say_bits, say_byte, say_integer, say_number, say_pair, say_whole,
-};
+use super::saying::{Called, Entry, byte_entry, integer_entry};
 use dictionary::slots::{
     COMMAND, CONTROL_NUMBER, CONTROL_SOURCE, ENABLE_NUMBER, ENABLE_RESPONSE, ENABLE_SOURCE,
     FAULT_FV, FAULT_MODE, LOGIC_SELECTED, MATH_ENTRIES, MATH_OPERATOR, OPERAND_NUMBER,
     OPERAND_SOURCE, OVERRIDE_FV, OVERRIDE_NUMBER, OVERRIDE_RESPONSE, OVERRIDE_SOURCE, SAMPLE,
     SPAN_END, SPAN_START, TABLE_ENTRIES, TABLE_NUMBER, TABLE_SOURCE, Unit,
 };
-use numbers::signed::pattern;
-use octets::little::{four_at, two_at};
 use signals::keeping::real_of;
 use signals::reading::as_whole;
 use signals::signal::Signal;
+use std::fmt;
+use std::fmt::{Formatter, Write};
 use unit::words::byte_at;
-use why::types::TRAIL;
+use why::types::{Pair, TRAIL};
+
+// The rule that gave an output its command, and the trail to where an error began.
+#[derive(Clone, Copy)]
+pub struct Account<'a> {
+    pub unit: &'a Unit,
+    pub output: u8,
+    pub rule: u8,
+    pub trail: &'a [u8; TRAIL],
+}
+
+impl fmt::Display for Account<'_> {
+    fn fmt<W: Write>(&self, f: &mut Formatter<W>) -> fmt::Result {
+        self.tell_rule(f)?;
+        if self.trail[2] == 3 {
+            return self.tell_trail(f);
+        }
+        Ok(())
+    }
+}
 
 // ---- the rule
 
-fn say_command(rt: &impl Print, unit: &Unit, output: u8, rule: u8) {
-    match rule {
-        1 | 6 => say(rt, b" is at 0"),
-        3 => say(rt, b" is at override FV"),
-        7 => say(rt, b" follows its control"),
-        _ => {
-            if byte_at(unit, FAULT_MODE + output as usize - 1) == 0 {
-                say(rt, b" keeps its last command");
-            } else {
-                say(rt, b" is at fault FV");
+// A whole number, or what tables and outputs make of a REAL32, with its bits.
+#[derive(Clone, Copy)]
+struct Value<'a>(&'a [u8; TRAIL]);
+
+impl fmt::Display for Value<'_> {
+    fn fmt<W: Write>(&self, f: &mut Formatter<W>) -> fmt::Result {
+        let trail = self.0;
+        if trail[2] == 1 {
+            let whole = i16::from_le_bytes([trail[3], trail[4]]);
+            return write!(f, "{whole}");
+        }
+        let bits = u32::from_le_bytes([trail[3], trail[4], trail[5], trail[6]]);
+        let whole = as_whole(Signal::Real(real_of(bits)));
+        write!(f, "{whole} as a whole number, REAL32 {bits:08X}h")
+    }
+}
+
+impl Account<'_> {
+    // The output's own entry among those of an object.
+    fn byte(&self, first: usize, index: u32) -> Entry
+        requires { (0 < first) × (first < 65536) }
+    {
+        byte_entry(
+            self.unit,
+            first + usize::from(self.output) - 1,
+            index,
+            self.output,
+        )
+    }
+
+    fn integer(&self, first: usize, index: u32) -> Entry
+        requires { (0 < first) × (first < 65536) }
+    {
+        integer_entry(
+            self.unit,
+            first + usize::from(self.output) - 1,
+            index,
+            self.output,
+        )
+    }
+
+    fn command(&self) -> &'static str {
+        match self.rule {
+            1 | 6 => "is at 0",
+            3 => "is at override FV",
+            7 => "follows its control",
+            _ => {
+                if byte_at(self.unit, FAULT_MODE + usize::from(self.output) - 1) == 0 {
+                    "keeps its last command"
+                } else {
+                    "is at fault FV"
+                }
             }
         }
     }
-}
 
-fn say_role(rt: &impl Print, rule: u8) {
-    match rule {
-        1 | 2 => say(rt, b"enable"),
-        3 | 4 => say(rt, b"override"),
-        _ => say(rt, b"control"),
-    }
-}
-
-// A whole number, or what tables and outputs make of a REAL32, with its bits.
-fn say_value(rt: &impl Print, trail: &[u8; TRAIL]) {
-    if trail[2] == 1 {
-        say_whole(rt, two_at(trail, 3));
-        return;
-    }
-    let bits = four_at(trail, 3);
-    let whole = pattern(as_whole(Signal::Real(real_of(bits))));
-    say_whole(rt, (whole % 0x1_0000) as u16);
-    say(rt, b" as a whole number, REAL32 ");
-    say_bits(rt, bits);
-}
-
-fn say_state(rt: &impl Print, rule: u8, trail: &[u8; TRAIL]) {
-    match rule {
-        1 => {
-            say(rt, b"off, at ");
-            say_value(rt, trail);
+    fn role(&self) -> &'static str {
+        match self.rule {
+            1 | 2 => "enable",
+            3 | 4 => "override",
+            _ => "control",
         }
-        3 => {
-            say(rt, b"on, at ");
-            say_value(rt, trail);
-        }
-        6 => say(rt, b"not available"),
-        7 => say_value(rt, trail),
-        _ => say(rt, b"in error"),
     }
-}
 
-// The pair that decided, and its response where it has one.
-fn say_decider(rt: &impl Print, unit: &Unit, output: u8, rule: u8) {
-    let n = output as usize;
-    if rule < 3 {
-        say_byte(rt, unit, ENABLE_SOURCE + n - 1, 0x2350, output);
-        say(rt, b", ");
-        say_byte(rt, unit, ENABLE_NUMBER + n - 1, 0x2351, output);
-        say(rt, b", ");
-        say_byte(rt, unit, ENABLE_RESPONSE + n - 1, 0x2352, output);
-        return;
-    }
-    if rule < 5 {
-        say_byte(rt, unit, OVERRIDE_SOURCE + n - 1, 0x2360, output);
-        say(rt, b", ");
-        say_byte(rt, unit, OVERRIDE_NUMBER + n - 1, 0x2361, output);
-        say(rt, b", ");
-        say_byte(rt, unit, OVERRIDE_RESPONSE + n - 1, 0x2362, output);
-        return;
-    }
-    say_byte(rt, unit, CONTROL_SOURCE + n - 1, 0x2340, output);
-    say(rt, b", ");
-    say_byte(rt, unit, CONTROL_NUMBER + n - 1, 0x2341, output);
-}
-
-// The entries that the command comes from.
-fn say_named(rt: &impl Print, unit: &Unit, output: u8, rule: u8) {
-    let n = output as usize;
-    match rule {
-        3 => {
-            say(rt, b"; ");
-            say_integer(rt, unit, OVERRIDE_FV + n - 1, 0x2300, output);
+    fn tell_state<W: Write>(&self, f: &mut Formatter<W>) -> fmt::Result {
+        let value = Value(self.trail);
+        match self.rule {
+            1 => write!(f, "off, at {value}"),
+            3 => write!(f, "on, at {value}"),
+            6 => write!(f, "not available"),
+            7 => write!(f, "{value}"),
+            _ => write!(f, "in error"),
         }
-        2 | 4 | 5 => {
-            say(rt, b"; ");
-            say_byte(rt, unit, FAULT_MODE + n - 1, 0x6340, output);
-            say(rt, b", ");
-            say_integer(rt, unit, FAULT_FV + n - 1, 0x7341, output);
-        }
-        _ => {}
     }
-}
 
-fn tell_rule(rt: &impl Print, unit: &Unit, output: u8, rule: u8, trail: &[u8; TRAIL]) {
-    say(rt, b"output ");
-    say_number(rt, output as u32);
-    say_command(rt, unit, output, rule);
-    say(rt, b": rule ");
-    say_number(rt, rule as u32);
-    say(rt, b", its ");
-    say_role(rt, rule);
-    say(rt, b" (");
-    say_pair(rt, trail[0], trail[1]);
-    if !is_there(trail[0], trail[1]) {
-        say(rt, b": there is none");
+    // The pair that decided, and its response where it has one.
+    fn tell_decider<W: Write>(&self, f: &mut Formatter<W>) -> fmt::Result {
+        match self.rule {
+            0..=2 => {
+                let source = self.byte(ENABLE_SOURCE, 0x2350);
+                let number = self.byte(ENABLE_NUMBER, 0x2351);
+                let response = self.byte(ENABLE_RESPONSE, 0x2352);
+                write!(f, "{source}, {number}, {response}")
+            }
+            3 | 4 => {
+                let source = self.byte(OVERRIDE_SOURCE, 0x2360);
+                let number = self.byte(OVERRIDE_NUMBER, 0x2361);
+                let response = self.byte(OVERRIDE_RESPONSE, 0x2362);
+                write!(f, "{source}, {number}, {response}")
+            }
+            _ => {
+                let source = self.byte(CONTROL_SOURCE, 0x2340);
+                let number = self.byte(CONTROL_NUMBER, 0x2341);
+                write!(f, "{source}, {number}")
+            }
+        }
     }
-    say(rt, b") is ");
-    say_state(rt, rule, trail);
-    say(rt, b" [");
-    say_integer(rt, unit, COMMAND + output as usize - 1, 0x7330, output);
-    say(rt, b"; ");
-    say_decider(rt, unit, output, rule);
-    say_named(rt, unit, output, rule);
-    say(rt, b"]\n");
+
+    // The entries that the command comes from.
+    fn tell_named<W: Write>(&self, f: &mut Formatter<W>) -> fmt::Result {
+        match self.rule {
+            3 => {
+                let value = self.integer(OVERRIDE_FV, 0x2300);
+                write!(f, "; {value}")
+            }
+            2 | 4 | 5 => {
+                let mode = self.byte(FAULT_MODE, 0x6340);
+                let value = self.integer(FAULT_FV, 0x7341);
+                write!(f, "; {mode}, {value}")
+            }
+            _ => Ok(()),
+        }
+    }
+
+    fn tell_rule<W: Write>(&self, f: &mut Formatter<W>) -> fmt::Result {
+        let output = self.output;
+        let rule = self.rule;
+        let role = self.role();
+        let command = self.command();
+        let decider = Called(Pair {
+            source: self.trail[0],
+            number: self.trail[1],
+        });
+        let there = if decider.is_there() {
+            ""
+        } else {
+            ": there is none"
+        };
+        write!(
+            f,
+            "output {output} {command}: rule {rule}, its {role} ({decider}{there}) is "
+        )?;
+        self.tell_state(f)?;
+        let told = self.integer(COMMAND, 0x7330);
+        write!(f, " [{told}; ")?;
+        self.tell_decider(f)?;
+        self.tell_named(f)?;
+        writeln!(f, "]")
+    }
 }
 
 // ---- the trail
 
-// What a block reads, and that it was so before this tick where the trail stops there.
-fn say_read(rt: &impl Print, source: u8, number: u8, earlier: bool) {
-    say(rt, b" reads ");
-    say_pair(rt, source, number);
-    if earlier {
-        say(rt, b" as the last tick left it, in error");
+// The pair that a block reads, and that it was so before this tick where the trail stops there.
+#[derive(Clone, Copy)]
+struct Reads {
+    pair: Pair,
+    earlier: bool,
+}
+
+impl fmt::Display for Reads {
+    fn fmt<W: Write>(&self, f: &mut Formatter<W>) -> fmt::Result {
+        let called = Called(self.pair);
+        if self.earlier {
+            return write!(f, "reads {called} as the last tick left it, in error");
+        }
+        write!(f, "reads {called}")
     }
-}
-
-fn tell_logic(rt: &impl Print, unit: &Unit, number: u8, source: u8, table: u8) {
-    say(rt, b" selected ");
-    say_pair(rt, source, table);
-    say(rt, b" [");
-    say_byte(
-        rt,
-        unit,
-        LOGIC_SELECTED + number as usize - 1,
-        0x4010,
-        number,
-    );
-    say(rt, b"]\n");
-}
-
-fn tell_table(rt: &impl Print, unit: &Unit, number: u8, source: u8, other: u8, earlier: bool) {
-    let at = TABLE_ENTRIES * number as usize;
-    let index = 0x3000 + 0x10 * number as u32;
-    say_read(rt, source, other, earlier);
-    say(rt, b" [");
-    say_byte(rt, unit, TABLE_SOURCE + at - TABLE_ENTRIES, index, 0);
-    say(rt, b", ");
-    say_byte(rt, unit, TABLE_NUMBER + at - TABLE_ENTRIES, index + 1, 0);
-    say(rt, b"]\n");
 }
 
 // Input i of math n, as the word of its source; its number stands as far behind OPERAND_NUMBER.
 fn operand_at(number: u8, input: u8) -> usize
     ensures { result < 65536 }
 {
-    OPERAND_SOURCE + MATH_ENTRIES * number as usize + input as usize - MATH_ENTRIES - 1
+    OPERAND_SOURCE + MATH_ENTRIES * usize::from(number) + usize::from(input) - MATH_ENTRIES - 1
 }
 
-fn has_pair(unit: &Unit, at: usize, source: u8, number: u8) -> bool
-    requires { at < 65536 }
-{
-    byte_at(unit, at) == source && byte_at(unit, at + OPERAND_NUMBER - OPERAND_SOURCE) == number
-}
-
-// The first of a math block's inputs that has this pair: a later one sees no other signal.
-fn input_of(unit: &Unit, math: u8, source: u8, number: u8) -> u8 {
-    if has_pair(unit, operand_at(math, 1), source, number) {
-        return 1;
+impl Account<'_> {
+    // The step that stands there.
+    fn step(&self, k: usize) -> Pair
+        requires { k < 65536 }
+    {
+        Pair {
+            source: self.trail_byte(6 + 2 * k),
+            number: self.trail_byte(7 + 2 * k),
+        }
     }
-    if has_pair(unit, operand_at(math, 2), source, number) {
-        return 2;
+
+    fn trail_byte(&self, at: usize) -> u8 {
+        let trail = self.trail;
+        trail.get(at).copied().unwrap_or(0)
     }
-    if has_pair(unit, operand_at(math, 3), source, number) {
-        return 3;
+
+    fn tell_logic<W: Write>(&self, f: &mut Formatter<W>, logic: u8, read: &Reads) -> fmt::Result {
+        let table = Called(read.pair);
+        let slot = LOGIC_SELECTED + usize::from(logic) - 1;
+        let selected = byte_entry(self.unit, slot, 0x4010, logic);
+        writeln!(f, "selected {table} [{selected}]")
     }
-    4
-}
 
-// A math block's entries begin at its index, 4600h for math 1.
-fn tell_math(rt: &impl Print, unit: &Unit, number: u8, source: u8, other: u8, earlier: bool) {
-    let index = 0x4500 + 0x100 * number as u32;
-    let input = input_of(unit, number, source, other);
-    let at = operand_at(number, input);
-    say_read(rt, source, other, earlier);
-    say(rt, b", its input ");
-    say_number(rt, input as u32);
-    say(rt, b" [");
-    say_byte(rt, unit, at, index, input);
-    say(rt, b", ");
-    say_byte(
-        rt,
-        unit,
-        at + OPERAND_NUMBER - OPERAND_SOURCE,
-        index + 1,
-        input,
-    );
-    say(rt, b"]\n");
-}
-
-fn tell_flag(rt: &impl Print, unit: &Unit, number: u8) {
-    let n = number as usize;
-    say(rt, b" is flagged [");
-    say_integer(rt, unit, SAMPLE + n - 1, 0x7100, number);
-    say(rt, b"; ");
-    say_integer(rt, unit, SPAN_START + n - 1, 0x7148, number);
-    say(rt, b", ");
-    say_integer(rt, unit, SPAN_END + n - 1, 0x7149, number);
-    say(rt, b"]\n");
-}
-
-fn tell_division(rt: &impl Print, unit: &Unit, number: u8) {
-    let at = MATH_ENTRIES * number as usize;
-    let index = 0x4550 + 0x100 * number as u32;
-    say(rt, b" divides by zero [");
-    say_byte(rt, unit, MATH_OPERATOR + at - MATH_ENTRIES, index, 1);
-    say(rt, b", ");
-    say_byte(rt, unit, MATH_OPERATOR + at + 1 - MATH_ENTRIES, index, 2);
-    say(rt, b", ");
-    say_byte(rt, unit, MATH_OPERATOR + at + 2 - MATH_ENTRIES, index, 3);
-    say(rt, b"]\n");
-}
-
-// The block of one step reads the next.
-fn tell_step(
-    rt: &impl Print,
-    unit: &Unit,
-    source: u8,
-    number: u8,
-    next: u8,
-    other: u8,
-    earlier: bool,
-) {
-    say_pair(rt, source, number);
-    match source {
-        3 => tell_table(rt, unit, number, next, other, earlier),
-        5 => tell_math(rt, unit, number, next, other, earlier),
-        _ => tell_logic(rt, unit, number, next, other),
+    fn tell_table<W: Write>(&self, f: &mut Formatter<W>, table: u8, read: &Reads) -> fmt::Result {
+        let entries = TABLE_ENTRIES * usize::from(table);
+        let index = 0x3000 + 0x10 * u32::from(table);
+        let source = byte_entry(self.unit, TABLE_SOURCE + entries - TABLE_ENTRIES, index, 0);
+        let number = byte_entry(
+            self.unit,
+            TABLE_NUMBER + entries - TABLE_ENTRIES,
+            index + 1,
+            0,
+        );
+        writeln!(f, "{read} [{source}, {number}]")
     }
-}
 
-// The last step is where the error began; one that the last tick left was told with its reader.
-fn tell_end(rt: &impl Print, unit: &Unit, source: u8, number: u8, end: u8) {
-    if end == 3 {
-        return;
+    fn has_pair(&self, at: usize, pair: Pair) -> bool
+        requires { at < 65536 }
+    {
+        byte_at(self.unit, at) == pair.source
+            && byte_at(self.unit, at + OPERAND_NUMBER - OPERAND_SOURCE) == pair.number
     }
-    say_pair(rt, source, number);
-    if end == 1 {
-        tell_flag(rt, unit, number);
-        return;
+
+    // The first of a math block's inputs that has this pair: a later one sees no other signal.
+    fn input_of(&self, math: u8, pair: Pair) -> u8 {
+        for input in 1..4u8 {
+            if self.has_pair(operand_at(math, input), pair) {
+                return input;
+            }
+        }
+        4
     }
-    tell_division(rt, unit, number);
-}
 
-fn byte_of(trail: &[u8], at: usize) -> u8 {
-    if at < trail.len() {
-        return trail[at];
+    // A math block's entries begin at its index, 4600h for math 1.
+    fn tell_math<W: Write>(&self, f: &mut Formatter<W>, math: u8, read: &Reads) -> fmt::Result {
+        let index = 0x4500 + 0x100 * u32::from(math);
+        let input = self.input_of(math, read.pair);
+        let at = operand_at(math, input);
+        let source = byte_entry(self.unit, at, index, input);
+        let number = byte_entry(
+            self.unit,
+            at + OPERAND_NUMBER - OPERAND_SOURCE,
+            index + 1,
+            input,
+        );
+        writeln!(f, "{read}, its input {input} [{source}, {number}]")
     }
-    0
-}
 
-// The step that stands there, and the one that it reads.
-fn tell_from(rt: &impl Print, unit: &Unit, trail: &[u8], at: usize, earlier: bool)
-    requires { at < 1024 }
-{
-    let source = byte_of(trail, at);
-    let number = byte_of(trail, at + 1);
-    let next = byte_of(trail, at + 2);
-    tell_step(
-        rt,
-        unit,
-        source,
-        number,
-        next,
-        byte_of(trail, at + 3),
-        earlier,
-    );
-}
-
-fn tell_trail(rt: &impl Print, unit: &Unit, trail: &[u8]) {
-    let count = byte_of(trail, 7) as usize;
-    let end = byte_of(trail, 8 + 2 * count);
-    let mut k: usize = 1;
-    while k < count {
-        tell_from(rt, unit, trail, 6 + 2 * k, end == 3 && k + 1 == count);
-        k += 1;
+    // The block of one step reads the next.
+    fn tell_step<W: Write>(&self, f: &mut Formatter<W>, block: Pair, read: &Reads) -> fmt::Result {
+        let called = Called(block);
+        write!(f, "{called} ")?;
+        match block.source {
+            3 => self.tell_table(f, block.number, read),
+            5 => self.tell_math(f, block.number, read),
+            _ => self.tell_logic(f, block.number, read),
+        }
     }
-    let last = 6 + 2 * count;
-    tell_end(
-        rt,
-        unit,
-        byte_of(trail, last),
-        byte_of(trail, last + 1),
-        end,
-    );
-}
 
-pub fn tell(rt: &impl Print, unit: &Unit, output: u8, rule: u8, trail: &[u8; TRAIL]) {
-    tell_rule(rt, unit, output, rule, trail);
-    if trail[2] == 3 {
-        tell_trail(rt, unit, trail);
+    fn tell_flag<W: Write>(&self, f: &mut Formatter<W>, input: u8) -> fmt::Result {
+        let n = usize::from(input);
+        let sample = integer_entry(self.unit, SAMPLE + n - 1, 0x7100, input);
+        let start = integer_entry(self.unit, SPAN_START + n - 1, 0x7148, input);
+        let end = integer_entry(self.unit, SPAN_END + n - 1, 0x7149, input);
+        writeln!(f, "is flagged [{sample}; {start}, {end}]")
+    }
+
+    fn tell_division<W: Write>(&self, f: &mut Formatter<W>, math: u8) -> fmt::Result {
+        let at = MATH_OPERATOR + MATH_ENTRIES * usize::from(math) - MATH_ENTRIES;
+        let index = 0x4550 + 0x100 * u32::from(math);
+        let first = byte_entry(self.unit, at, index, 1);
+        let second = byte_entry(self.unit, at + 1, index, 2);
+        let third = byte_entry(self.unit, at + 2, index, 3);
+        writeln!(f, "divides by zero [{first}, {second}, {third}]")
+    }
+
+    // The last step is where the error began; one that the last tick left was told with its reader.
+    fn tell_end<W: Write>(&self, f: &mut Formatter<W>, block: Pair, end: u8) -> fmt::Result {
+        if end == 3 {
+            return Ok(());
+        }
+        let called = Called(block);
+        write!(f, "{called} ")?;
+        if end == 1 {
+            return self.tell_flag(f, block.number);
+        }
+        self.tell_division(f, block.number)
+    }
+
+    fn tell_trail<W: Write>(&self, f: &mut Formatter<W>) -> fmt::Result {
+        let count = usize::from(self.trail[7]);
+        let end = self.trail_byte(8 + 2 * count);
+        for k in 1..count {
+            let read = Reads {
+                pair: self.step(k + 1),
+                earlier: end == 3 && k + 1 == count,
+            };
+            self.tell_step(f, self.step(k), &read)?;
+        }
+        self.tell_end(f, self.step(count), end)
     }
 }

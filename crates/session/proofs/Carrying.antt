@@ -1,6 +1,6 @@
 -- What a turn, the loop and the whole program take from a reader and give to a writer.
 -- Assumes nothing.
-use Rattle.std.proofs.Common.{◌≡◌, ℕ, ◌+◌, ◌-◌, ◌^◌, ◌<◌, ◌≤◌, Bool, true, false, not, List, [], ◌++◌, length, take, refl, sym, ap, ◌∙◌, subst, append-nil, append_assoc, None, Some, IfSome, Result, Ok, Err, IsOk, OnOk, arith, length-append, length-take}
+use Rattle.std.proofs.Common.{◌≡◌, ℕ, ◌+◌, ◌-◌, ◌^◌, ◌<◌, ◌≤◌, Bool, true, false, List, [], ◌++◌, length, take, refl, sym, ap, ◌∙◌, subst, append-nil, append_assoc, None, Some, IfSome, Result, Ok, Err, IsOk, OnOk, arith, length-append, length-take}
 use Rattle.std.specs.declared.option.Option.{Option}
 use Rattle.std.specs.Io.KnownBytes.{Appends, Consumes, IsAtEnd}
 use Rattle.std.proofs.KnownBytes.{Appends-nil, Appends-trans, Consumes-nil, Consumes-trans}
@@ -56,14 +56,6 @@ pub longer : {k k' k'' : Kept} {left held left' held' left'' held'' : Option (Li
     (s : Carried k left held k' left' held') (h : Heard k' left' held' k'' more left'' held'') → length (carried_on s h).input ≡ length s.input + length h.carried.input
 unfolding carried_on
 longer s h = length-append s.input h.carried.input
-
-pub no_more : (more : Bool) → not more ≡ true → more ≡ false
-no_more true e = absurd (cc)
-no_more false e = refl
-
-pub still_more : (more : Bool) → not more ≡ false → more ≡ true
-still_more true e = refl
-still_more false e = absurd (cc)
 
 -- ---- the whole program
 

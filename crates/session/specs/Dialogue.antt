@@ -4,6 +4,7 @@ use Rattle.std.specs.Prelude.{ℕ, ◌/◌, min, ◌≡◌, leb, eqb, length, ta
 use mathlib.Core.List.{List, [], ◌∷◌, ◌++◌, foldl}
 use Rattle.std.proofs.lemmas.List.Edits.{sets}
 use Rattle.numbers.specs.Choice.{first}
+use Rattle.terminal.specs.declared.line.Line.{Line}
 use Rattle.printer.specs.Printing.{Printed}
 use Rattle.printer.specs.Answering.{Said, said, unheard}
 
@@ -52,6 +53,10 @@ pub record Kept : Type 0 where
   pub unit : List ℕ
   pub line : List ℕ
   pub held : ℕ
+
+-- the unit and the line that the code has
+abbrev pub kept_of : List ℕ → Line → Kept
+kept_of unit line = record { unit = unit; line = line.bytes; held = line.held }
 
 -- the lines that a piece brings to their end, and the line that it leaves unfinished
 unfoldable pub goes_on : Kept → List ℕ → Cut

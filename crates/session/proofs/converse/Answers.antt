@@ -7,7 +7,7 @@ use Rattle.session.proofs.converse.Goals as goal
 pub returns : goal.returns
 returns g c = on_ok _ _ (λ ok.
     let noted = c.say.ensures.noted ok in
-    whole_session _ _ _ _ _ (c.serve-held.ensures.carried noted) c.start-unit.ensures refl
+    whole_session _ _ _ _ _ (rw c.new-line.ensures at (c.serve.ensures.carried noted)) c.start-unit.ensures refl
     (record {
       left = c.close-printed.new.unit;
       text = replicate 64 0;

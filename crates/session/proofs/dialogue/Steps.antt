@@ -9,11 +9,12 @@ use native.Mathlib.Nat.{zero-add}
 use borrow.Author.Tests.{eq-eqb, ne_eqb, lt-ltb, le-ltb, leb-true, leb-false}
 use lib.Dec.{leb}
 use lib.ListN.{length, take, drop, set, get_or, length-append, length-take, take-append-drop}
-use lib.Seq.{sets, sets-eq, length-sets, take-suc, take_all, get_or-take, length-take-le, drop-length}
+use lib.Seq.{sets, sets-eq, length-sets, take-suc, take_all, length-take-le, drop-length}
 use Rattle.numbers.specs.Choice.{first}
 use Rattle.printer.specs.Printing.{Printed}
 use Rattle.octets.proofs.little.Parts.{sets_append}
-use Rattle.session.specs.Dialogue.{cut, answered, Kept, goes_on, prints, over, after, taken}
+use Rattle.terminal.specs.declared.line.Line.{Line}
+use Rattle.session.specs.Dialogue.{cut, answered, Kept, kept_of, goes_on, prints, over, after, taken}
 use Rattle.session.specs.Byte.{ending, Finished, step, speaks, Taken}
 use Rattle.session.proofs.dialogue.Bytes.{after_next, prints_next}
 
@@ -39,6 +40,15 @@ module _ (k : Kept) (b : ℕ) (room : List ℕ) (printed : ℕ) where
       let t = ne_eqb b 0x0A e in
       record { kept = rw (t, le-ltb k.held 65 h); stored = rw t; count = rw t (omega arith); short = rw t (omega arith) }
 
+-- a byte that joins a line, if there is room
+pub goes_in : (unit : List ℕ) {line' : Line} (line : Line) (b : ℕ) (room : List ℕ) (printed : ℕ) → (b ≡ 0x0A → ⊥)
+    → (line.held < 65 → line' ≡ record { bytes = set line.bytes line.held b; held = line.held + 1 }) → (65 ≤ line.held → line' ≡ line)
+    → Taken (kept_of unit line) b room printed (kept_of unit line') room printed
+goes_in unit {line'} line b room printed e kept past = by (leb 65 line.held) refl where
+  by : (t : Bool) → leb 65 line.held ≡ t → Taken (kept_of unit line) b room printed (kept_of unit line') room printed
+  by true h = let full = leb-true 65 line.held h in rw (past full) (passes (kept_of unit line) b room printed e full)
+  by false h = let some = leb-false 65 line.held h in rw (kept some) (joins (kept_of unit line) b room printed e some)
+
 -- ---- the loop
 
 -- after so many bytes of what is taken
@@ -62,10 +72,6 @@ pub share_most : (piece room : List ℕ) → (length (taken piece room) ≤ leng
 unfolding taken
 share_most piece room = let n = length-take (length room / 64) piece in (omega arith, omega arith)
 
-pub share_byte : (piece room : List ℕ) (i : ℕ) → i < length (taken piece room) → get_or piece i 0 ≡ get_or (taken piece room) i 0
-unfolding taken
-share_byte piece room i h = sym (get_or-take (length room / 64) piece i 0 (omega (arith, length-take (length room / 64) piece)))
-
 pub begun : (k : Kept) (piece room₀ : List ℕ) {held : ℕ} → length k.line ≡ 65 → held ≡ min k.held 65 → Hearing k piece room₀ 0 (record { unit = k.unit; line = k.line; held = held }) room₀ 0
 unfolding after prints goes_on cut answered over
 begun k piece room₀ {held} wide e = record {
@@ -82,10 +88,6 @@ begun k piece room₀ {held} wide e = record {
 module _ {k : Kept} {piece room₀ : List ℕ} {i : ℕ} {k' : Kept} {room : List ℕ} {printed : ℕ} (a : Hearing k piece room₀ i k' room printed) where
   pub room_long : length room ≡ length room₀
   room_long = ap length a.stored ∙ length-sets room₀ 0 (prints k (take i piece))
-
-  pub held_most : k'.held ≤ 65
-  unfolding after
-  held_most = omega (arith, ap (λ (x : Kept). x.held) a.kept)
 
   pub onward : {b : ℕ} {k'' : Kept} {room'' : List ℕ} {printed'' : ℕ} → i < length piece → b ≡ get_or piece i 0 → Taken k' b room printed k'' room'' printed''
       → Hearing k piece room₀ (i + 1) k'' room'' printed''

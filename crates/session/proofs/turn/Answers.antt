@@ -17,12 +17,12 @@ returns-then-n-eq0-clause-carried g c = λ ok.
     nothing_more _ _ _ _ _ c.if-n-eq0.true r.bytes (r.end ok c.if-n-eq0.true (search rules))
 
 pub slice_bounds-say-end : goal.slice_bounds-say-end
-slice_bounds-say-end g c = sym (length-take-le _ _ (inside c.hear-heard.ensures.print))
+slice_bounds-say-end g c = sym (length-take-le _ _ (inside c.hear-printed.ensures.print))
 
 pub returns-clause-turned : goal.returns-clause-turned
-returns-clause-turned g c = answered (search rules) (search rules) c.hear-heard.ensures
+returns-clause-turned g c = answered (search rules) (search rules) c.hear-printed.ensures
 
 pub returns-clause-carried : goal.returns-clause-carried
 returns-clause-carried g c = λ ok.
     let r = c.read_once-n.ensures in
-    a_piece _ _ _ _ (a_turn (search rules) (search rules) c.hear-heard.ensures) (some_read _ _ c.if-n-eq0.false r.within) r.bytes (c.say.ensures.bytes ok)
+    a_piece _ _ _ _ (a_turn (search rules) (search rules) c.hear-printed.ensures) (some_read _ _ c.if-n-eq0.false r.within) r.bytes (c.say.ensures.bytes ok)

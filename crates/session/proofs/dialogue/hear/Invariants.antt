@@ -1,12 +1,8 @@
 -- What has been heard is kept from byte to byte (`Steps.Hearing`).
 -- Assumes nothing.
-use Prim.Native.Nat.{◌-◌}
-use Rattle.session.specs.Dialogue.{taken}
+use Rattle.session.specs.Dialogue.{kept_of}
 use Rattle.session.proofs.dialogue.Steps.{Hearing}
 use Rattle.session.proofs.dialogue.hear.Given as goal
 
-abbrev pub invariant-loop-k : goal.invariant-loop-k
-invariant-loop-k l = Hearing (record { unit = l.initial.unit; line = l.initial.line; held = l.held }) (taken l.piece l.initial.room) l.initial.room l.k (record { unit = l.unit; line = l.line; held = l.here.held }) l.room l.here.printed
-
-abbrev pub decreases-loop-k : goal.decreases-loop-k
-decreases-loop-k l = l.end - l.k
+abbrev pub invariant-loop-byte : goal.invariant-loop-byte
+invariant-loop-byte l = Hearing (kept_of l.fn.unit l.fn.line) l.part l.initial.room l.byte-index (kept_of l.unit l.line) l.room l.printed

@@ -5,6 +5,7 @@ use Prim.Native.Nat.{ℕ, ◌+◌}
 use native.Mathlib.Omega.{arith}
 use lib.Seq.{sets}
 use Rattle.printer.proofs.Answers.{begins, inside}
+use Rattle.session.specs.Dialogue.{kept_of}
 use Rattle.session.proofs.dialogue.Told.{ending_most}
 use Rattle.session.proofs.dialogue.byte.finish.Goals as goal
 
@@ -15,7 +16,7 @@ pub overflow_add-result : goal.overflow_add-result
 overflow_add-result c =
     let r = c.respond-count in
     let a = c.args in
-    let most = ending_most (record { unit = a.unit.now; line = a.line.now; held = a.held }) in
+    let most = ending_most (kept_of a.unit.now a.line.now) in
     omega (arith, r.ensures.print.counted, most)
 
 pub returns : goal.returns
@@ -26,5 +27,5 @@ returns c =
       left = r.ensures.left;
       stored = c.put.ensures ∙ ap (sets a.room.now a.printed) (begins r.ensures.print);
       count = ap (λ (n : ℕ). a.printed + n) r.ensures.print.counted;
-      short = omega (arith, ending_most (record { unit = a.unit.now; line = a.line.now; held = a.held }));
+      short = omega (arith, ending_most (kept_of a.unit.now a.line.now));
     }

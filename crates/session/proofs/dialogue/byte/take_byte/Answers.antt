@@ -1,20 +1,15 @@
---
+-- LF ends the line, any other byte joins it.
 -- Assumes nothing.
-use native.Mathlib.Omega.{arith}
-use Rattle.session.proofs.dialogue.Steps.{ends, joins, passes}
+use Rattle.session.specs.Dialogue.{kept_of}
+use Rattle.session.proofs.dialogue.Steps.{ends, goes_in}
 use Rattle.session.proofs.dialogue.byte.take_byte.Goals as goal
 
 pub returns-then-byte-eq10 : goal.returns-then-byte-eq10
 returns-then-byte-eq10 c =
     let a = c.args in
-    ends (record { unit = a.unit.now; line = a.line.now; held = a.here.held }) a.byte a.room.now a.here.printed c.if-byte-eq10.true c.finish-more.ensures
-
-pub returns-then-held-ge-LINE : goal.returns-then-held-ge-LINE
-returns-then-held-ge-LINE c =
-    let a = c.args in
-    passes (record { unit = a.unit.now; line = a.line.now; held = a.here.held }) a.byte a.room.now a.here.printed c.if-byte-eq10.false (omega arith)
+    rw c.clear.ensures (ends (kept_of a.unit.now a.line.now) a.byte a.room.now a.printed c.if-byte-eq10.true c.finish-more.ensures)
 
 pub returns : goal.returns
 returns c =
     let a = c.args in
-    joins (record { unit = a.unit.now; line = a.line.now; held = a.here.held }) a.byte a.room.now a.here.printed c.if-byte-eq10.false (omega arith)
+    goes_in a.unit.now a.line.now a.byte a.room.now a.printed c.if-byte-eq10.false c.join.ensures.kept c.join.ensures.past

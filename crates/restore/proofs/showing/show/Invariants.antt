@@ -1,9 +1,0 @@
--- Each turn takes one from the records that are left.
--- Assumes nothing.
-use Rattle.restore.proofs.showing.show.Given as goal
-
-abbrev pub invariant-loop-left : goal.invariant-loop-left
-invariant-loop-left g l = Unit {0}
-
-abbrev pub decreases-loop-left : goal.decreases-loop-left
-decreases-loop-left g l = l.left
