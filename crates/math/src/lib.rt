@@ -62,22 +62,14 @@ fn larger(run: f32, x: f32) -> f32
 fn operate(operator: u8, run: f32, x: f32) -> f32
     ensures { result ≡ operated operator run x }
 {
-    if operator == 0 {
-        return run + x;
+    match operator {
+        0 => run + x,
+        1 => run - x,
+        2 => run * x,
+        3 => run / x,
+        4 => smaller(run, x),
+        _ => larger(run, x),
     }
-    if operator == 1 {
-        return run - x;
-    }
-    if operator == 2 {
-        return run * x;
-    }
-    if operator == 3 {
-        return run / x;
-    }
-    if operator == 4 {
-        return smaller(run, x);
-    }
-    larger(run, x)
 }
 
 // A zero of either sign: `==` does not see the sign.
