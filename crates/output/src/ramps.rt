@@ -13,7 +13,7 @@ use dictionary::slots::{
     OVERRIDE_FV, OVERRIDE_RESPONSE, RAMP_COUNT, RAMP_DOWN, RAMP_FV1, RAMP_FV2, RAMP_RISING,
     RAMP_START, RAMP_UP, RAMP_USED, Unit,
 };
-use numbers::limits::limit_whole;
+use numbers::limits::limit;
 use numbers::signed::pattern;
 use unit::words::{byte_at, switched_at, time_at, whole_at};
 
@@ -92,7 +92,7 @@ pub fn ramp(unit: &Unit, k: usize, v: i16) -> Motion
     ensures { result ≡ ramped (settings unit.now (k + 1)) v (motion unit.now (k + 1)) }
 {
     let s = settings_of(unit, k);
-    let from = limit_whole(whole_at(unit, COMMAND + k), s.fv1, s.fv2);
+    let from = limit(whole_at(unit, COMMAND + k), s.fv1, s.fv2);
     let to = aim(s, v);
     if is_equal(from, to) {
         return rest(to);
