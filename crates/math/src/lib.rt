@@ -10,7 +10,7 @@ ghost use Rattle.std.specs.Float.Ieee.{eq};
 ghost use Rattle.math.specs.Math.{zero, operated, operated_on};
 ghost use Rattle.math.specs.Fold as spec;
 
-use numbers::limits::limit_real;
+use numbers::limits::limit;
 use signals::signal::Signal;
 
 // An input: its signal, scaling 1 and 2, and its gain in per cent.
@@ -94,7 +94,7 @@ pub fn apply(fold: Fold, operator: u8, x: f32) -> Fold
         next.failed = true;
         return next;
     }
-    let run = limit_real(operate(operator, fold.run, x), -1.0, 1.0);
+    let run = limit(operate(operator, fold.run, x), -1.0, 1.0);
     next.run = run;
     next
 }
