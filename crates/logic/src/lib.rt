@@ -24,22 +24,14 @@ pub enum Verdict {
 fn compare(comparison: u8, x: f32, y: f32) -> bool
     ensures { result ≡ compares comparison x y }
 {
-    if comparison == 0 {
-        return x == y;
+    match comparison {
+        0 => x == y,
+        1 => x != y,
+        2 => x > y,
+        3 => x >= y,
+        4 => x < y,
+        _ => x <= y,
     }
-    if comparison == 1 {
-        return x != y;
-    }
-    if comparison == 2 {
-        return x > y;
-    }
-    if comparison == 3 {
-        return x >= y;
-    }
-    if comparison == 4 {
-        return x < y;
-    }
-    x <= y
 }
 
 // Neither argument is missing here, so one without a number is in error.

@@ -13,7 +13,7 @@ use dictionary::slots::{
     OVERRIDE_FV, OVERRIDE_RESPONSE, RAMP_COUNT, RAMP_DOWN, RAMP_FV1, RAMP_FV2, RAMP_RISING,
     RAMP_START, RAMP_UP, RAMP_USED, Unit,
 };
-use numbers::limits::limit_whole;
+use numbers::limits::limit;
 use numbers::signed::pattern;
 use unit::rows::Row;
 
@@ -89,7 +89,7 @@ pub fn ramp(output: Row<'_, 4>, v: i16) -> Motion
     ensures { result ≡ ramped (settings output.entry.unit.now (output.entry.k + 1)) v (motion output.entry.unit.now (output.entry.k + 1)) }
 {
     let s = settings_of(output);
-    let from = limit_whole(output.whole(COMMAND), s.fv1, s.fv2);
+    let from = limit(output.whole(COMMAND), s.fv1, s.fv2);
     let to = aim(s, v);
     if from == to {
         return rest(to);
