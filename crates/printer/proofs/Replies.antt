@@ -1,4 +1,4 @@
--- What the answering functions share: a reply is what the buffer holds, the commands and the register stand in their slots, and the verb decides.
+-- What the answering functions share: a reply is what the buffer holds, the commands and the register stand in their slots.
 -- Assumes nothing.
 use Prim.Native.Nat.{ℕ, ◌<◌, ◌+◌, ◌%◌}
 use mathlib.Core.List.{List, [], ◌∷◌}
@@ -18,10 +18,7 @@ use Rattle.dictionary.specs.Names.{slot_of}
 use Rattle.unit.proofs.Slots.{has, stretch, array, var}
 use Rattle.unit.specs.Entry.{whole, byte}
 use Rattle.printer.specs.Printing.{Printed, reply_line, silent_line, tick_line}
-use Rattle.printer.specs.Reading.{asked}
-use Rattle.printer.specs.declared.reading.Request.{Request}
-use Rattle.printer.specs.declared.reading.Verb.TheVariants.{Frame, Tick, Unknown}
-use Rattle.printer.specs.Answering.{Said, shown, state_line, served, sampled, unheard, done, said, Answers}
+use Rattle.printer.specs.Answering.{Said, shown, state_line, Answers}
 
 -- what is printed may be told in another way
 pub prints : {l m before after : List ℕ} {n : ℕ} → l ≡ m → Printed l before after n → Printed m before after n
@@ -62,18 +59,3 @@ module _ (unit : List ℕ) (a b c d : ℤ) (register : ℕ) {slot place : ℕ} (
   state_line_lem ea eb ec ed er =
       let one : slot_of 0x7330 1 ≡ slot = commands 0 (lit< tt) at ∙ omega arith in
       rw (one, commands 1 (lit< tt) at, commands 2 (lit< tt) at, commands 3 (lit< tt) at, var 0x1001 there, ea, eb, ec, ed, er)
-
--- ---- by the verb
-
-module _ (line : List ℕ) (unit : List ℕ) (q : Request) (e : q ≡ asked line) where
-  pub framed : q.verb ≡ Frame → said line unit ≡ served q.frame unit
-  unfolding said done
-  framed v = rw (← e, v) refl
-
-  pub timed : q.verb ≡ Tick → said line unit ≡ sampled q.samples unit
-  unfolding said done
-  timed v = rw (← e, v) refl
-
-  pub unknown : q.verb ≡ Unknown → said line unit ≡ unheard unit
-  unfolding said done
-  unknown v = rw (← e, v) refl

@@ -6,7 +6,7 @@ ghost use Rattle.printer.specs.Answering.{decided, shown, state_line, sampled, s
 
 use crate::answer_lines::{show_reply, show_tick};
 use crate::printing::{show_silent, show_unknown};
-use crate::reading::{Verb, read};
+use crate::reading::{Request, read};
 use controller::tick::tick;
 use dictionary::slots::{COMMAND, ERROR_REGISTER, Unit};
 use sdo::serving::serve;
@@ -52,13 +52,9 @@ fn take_tick(unit: &mut Unit, samples: [i16; 4], out: &mut [u8; 64]) -> usize
 pub fn answer(unit: &mut Unit, line: &[u8], out: &mut [u8; 64]) -> usize
     ensures { Answers (said line.now unit.old) unit.new out.old out.new result }
 {
-    let request = read(line);
-    let verb = request.verb;
-    let frame = request.frame;
-    let samples = request.samples;
-    match verb {
-        Verb::Frame => serve_frame(unit, &frame, out),
-        Verb::Tick => take_tick(unit, samples, out),
-        Verb::Unknown => show_unknown(out),
+    match read(line) {
+        Some(Request::Frame(frame)) => serve_frame(unit, &frame, out),
+        Some(Request::Tick(samples)) => take_tick(unit, samples, out),
+        None => show_unknown(out),
     }
 }
