@@ -9,6 +9,7 @@ use lib.Dec.{eqb, ltb}
 use lib.IntN.{ℤ, pos, negsuc, neg_ℤ}
 use lib.Signed.{lt_z}
 use borrow.Author.Tests.{ne_eqb, eqb-true, eqb-false, le-ltb, ltb-true, ltb-false}
+use Rattle.std.specs.Prelude.{Ok}
 use Rattle.numbers.specs.Choice.{first}
 use Rattle.numbers.specs.Order.{below}
 use Rattle.numbers.specs.Signed.{twos, signed16}
@@ -18,7 +19,6 @@ use Rattle.dictionary.proofs.Tabulate.{tabulate}
 use Rattle.roles.specs.Roles.{ranges, ranged, chosen}
 use Rattle.roles.proofs.widths.WidthLaws.{ranged_whole}
 use Rattle.entries.specs.Judge.{finite, number_of, within, in_range}
-use Rattle.entries.specs.declared.types.Verdict.TheVariants.{Good}
 
 -- ---- where no key is met
 
@@ -66,11 +66,11 @@ twos_fits p h = go (ltb p 32768) refl
     go true e = let l = ltb-true p 32768 e in (le-ltb 32767 p (omega arith), refl)
     go false e = let l = ltb-false p 32768 e in minus (65536 - p) (omega arith) (omega arith)
 
-pub whole_good : {role : ℕ} (word : ℕ) → 17 ≤ role → Good ≡ in_range (ranged role) word
+pub whole_good : {role : ℕ} (word : ℕ) → 17 ≤ role → Ok tt ≡ in_range (ranged role) word
 unfolding in_range within finite number_of signed16 ranged ranges chosen below first
 whole_good {role} word h = go (eqb role 31) refl
   where
-    go : (b : Bool) → eqb role 31 ≡ b → Good ≡ in_range (ranged role) word
+    go : (b : Bool) → eqb role 31 ≡ b → Ok tt ≡ in_range (ranged role) word
     go true e = rw (eqb-true role 31 e)
     go false e =
         let fits = twos_fits (word % 65536) (omega arith) in

@@ -7,11 +7,12 @@ use lib.IntN.{ℤ}
 use mir.Syntax.{w32}
 use mir.Val.{SFits, to_z, of_z}
 use mir.Facts.{to_z-of_z}
+use Rattle.std.specs.Prelude.{Err}
 use Rattle.numbers.specs.Choice.{first}
 use Rattle.dictionary.specs.declared.types.Kind.{Kind}
 use Rattle.dictionary.specs.declared.types.Range.{Range}
 use Rattle.entries.specs.Judge.{finite, number_of, within, in_range}
-use Rattle.entries.specs.declared.types.Verdict.TheVariants.{NotFinite}
+use Rattle.entries.specs.declared.types.Fault.TheVariants.{NotFinite}
 
 module _ (range : Range) (word : ℕ) (kind : Kind) (k : kind ≡ range.kind) (f : Bool) (e : f ≡ finite kind word) where
   is_finite : f ≡ finite range.kind word
@@ -22,6 +23,6 @@ module _ (range : Range) (word : ℕ) (kind : Kind) (k : kind ≡ range.kind) (f
   unfolding in_range first
   is_number t v low high n fv l fl h fh = rw (← is_finite, t, to_z-of_z fv, to_z-of_z fl, to_z-of_z fh, n, k, l, h)
 
-  pub is_no_number : f ≡ false → NotFinite ≡ in_range range word
+  pub is_no_number : f ≡ false → Err NotFinite ≡ in_range range word
   unfolding in_range first
   is_no_number t = rw (← is_finite, t)

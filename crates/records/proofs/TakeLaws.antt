@@ -17,8 +17,9 @@ use Rattle.dictionary.proofs.Tabulate.{tabulate, agree}
 use Rattle.dictionary.specs.declared.types.Kind.{Kind}
 use Rattle.dictionary.specs.declared.types.Kind.TheVariants.{Unsigned8, Integer16, Unsigned16, Real32, Unsigned32}
 use Rattle.numbers.specs.Order.{below}
-use Rattle.entries.specs.Judge.{number_of, finite, within, in_range, is_good}
-use Rattle.entries.specs.declared.types.Verdict.TheVariants.{Good, Above, Below}
+use Rattle.entries.specs.Judge.{number_of, finite, within, in_range}
+use Rattle.std.specs.Prelude.{Ok, Err, is_ok}
+use Rattle.entries.specs.declared.types.Fault.TheVariants.{Above, Below}
 use Rattle.entries.proofs.KeyLaws.{whole_good}
 use Rattle.roles.specs.Roles.{ranged, ranges, chosen}
 use Rattle.records.specs.Layout.{Listed, size}
@@ -87,9 +88,9 @@ module _ (row sub : ℕ) {role : ℕ} (q : role ≡ role_at row sub) where
       small true l p = let m = ltb-true (row % 0x100) 31 l in omega arith
       small false l p = low (eqb sub 5) (eqb (sub % 2) 1) p
 
-  pub same_fits : (word : ℕ) → is_good (in_range (ranged role) word) ≡ fits (entry_at row sub) word
+  pub same_fits : (word : ℕ) → is_ok (in_range (ranged role) word) ≡ fits (entry_at row sub) word
   unfolding fits entry_at
-  same_fits word = ap (λ (r : ℕ). is_good (in_range (ranged r) word)) q
+  same_fits word = ap (λ (r : ℕ). is_ok (in_range (ranged r) word)) q
 
 -- up to the number's role, the range of a byte is from 0 to the greatest value
 small_ranges : tabulate 8 0 ranged ≡ tabulate 8 0 (λ role. (u8 0 (greatest role) 0).range)
@@ -104,24 +105,23 @@ module _ {role : ℕ} (small : role < 8) where
   unfolding width
   small_size = ap (λ (r : Range). width r.kind) (sym small_range)
 
-  small_fits : (word : ℕ) → is_good (in_range (ranged role) word) ≡ not (ltb (greatest role) (word % 0x100))
-  unfolding is_good in_range finite within number_of below first
+  small_fits : (word : ℕ) → is_ok (in_range (ranged role) word) ≡ not (ltb (greatest role) (word % 0x100))
+  unfolding in_range finite within number_of below first
   small_fits word = rw small_range (go (ltb (greatest role) (word % 0x100)))
     where
-      go : (b : Bool) → is_good (first b Above (first (ltb (word % 0x100) 0) Below Good)) ≡ not b
+      go : (b : Bool) → is_ok (first b (Err Above) (first (ltb (word % 0x100) 0) (Err Below) (Ok tt))) ≡ not b
       go true = refl
       go false = rw (le-ltb (word % 0x100) 0 zero-le)
 
-  pub small_unfit : {g : ℕ} → g ≡ greatest role → (word : ℕ) → g < word % 0x100 → false ≡ is_good (in_range (ranged role) word)
+  pub small_unfit : {g : ℕ} → g ≡ greatest role → (word : ℕ) → g < word % 0x100 → false ≡ is_ok (in_range (ranged role) word)
   small_unfit {g} e word h = sym (small_fits word ∙ rw (← e, lt-ltb g (word % 0x100) h))
 
-  pub small_fit : {g : ℕ} → g ≡ greatest role → (word : ℕ) → word % 0x100 ≤ g → true ≡ is_good (in_range (ranged role) word)
+  pub small_fit : {g : ℕ} → g ≡ greatest role → (word : ℕ) → word % 0x100 ≤ g → true ≡ is_ok (in_range (ranged role) word)
   small_fit {g} e word h = sym (small_fits word ∙ rw (← e, le-ltb g (word % 0x100) h))
 
 -- from the whole number's role on, every word fits
-pub whole_fits : {role : ℕ} (word : ℕ) → 17 ≤ role → is_good (in_range (ranged role) word) ≡ true
-unfolding is_good
-whole_fits word h = ap is_good (sym (whole_good word h))
+pub whole_fits : {role : ℕ} (word : ℕ) → 17 ≤ role → is_ok (in_range (ranged role) word) ≡ true
+whole_fits word h = ap is_ok (sym (whole_good word h))
 
 -- ---- the tests in their order
 
