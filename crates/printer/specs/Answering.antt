@@ -3,9 +3,7 @@
 -- Assumes nothing.
 use Rattle.std.specs.Prelude.{ℕ, List, [], ◌∷◌, ◌≡◌, ℤ, Option, Some, None}
 use Rattle.sdo.specs.Answers as frames
-use Rattle.sdo.specs.Frames.{reply_to}
-use Rattle.sdo.specs.declared.types.Answer.{Answer}
-use Rattle.sdo.specs.declared.types.Answer.TheVariants.{Silent, Aborted, Value, Written}
+use Rattle.sdo.specs.Frames.{Answer, reply_to}
 use Rattle.sdo.specs.Served.{after}
 use Rattle.unit.specs.Entry.{whole, byte}
 use Rattle.controller.specs.Tick.{ticked}
@@ -21,10 +19,8 @@ pub record Said : Type 0 where
 
 -- "prints the reply, or -"
 unfoldable pub shown : List ℕ → Answer → List ℕ
-shown frame Silent = silent_line
-shown frame (Aborted a) = reply_line (reply_to frame (Aborted a))
-shown frame (Value word size) = reply_line (reply_to frame (Value word size))
-shown frame (Written slot word) = reply_line (reply_to frame (Written slot word))
+shown frame None = silent_line
+shown frame (Some done) = reply_line (reply_to frame (Some done))
 
 -- a frame's answer: the reply has room for eight bytes
 unfoldable pub decided : List ℕ → List ℕ → Answer

@@ -10,7 +10,6 @@ use crate::reading::{Request, read};
 use controller::tick::tick;
 use dictionary::slots::{COMMAND, ERROR_REGISTER, Unit};
 use sdo::serving::serve;
-use sdo::types::Answer;
 use unit::words::{byte_at, whole_at};
 
 // The reply, or -.
@@ -19,12 +18,9 @@ fn serve_frame(unit: &mut Unit, frame: &[u8], out: &mut [u8; 64]) -> usize
     ensures print { Printed (shown frame.now (decided unit.old frame.now)) out.old out.new result }
 {
     let mut reply = [0u8; 8];
-    let answer = serve(unit, frame, &mut reply);
-    match answer {
-        Answer::Silent => show_silent(out),
-        Answer::Aborted(_) => show_reply(&reply, out),
-        Answer::Value(_, _) => show_reply(&reply, out),
-        Answer::Written(_, _) => show_reply(&reply, out),
+    match serve(unit, frame, &mut reply) {
+        Some(_) => show_reply(&reply, out),
+        None => show_silent(out),
     }
 }
 

@@ -10,9 +10,7 @@ use lib.IntN.{ℤ}
 use lib.ListN.{length, take, length-append, length-take}
 use Rattle.std.specs.Prelude.{Option, Some, None}
 use Rattle.numbers.specs.Choice.{first}
-use Rattle.sdo.specs.Frames.{reply_to}
-use Rattle.sdo.specs.declared.types.Answer.{Answer}
-use Rattle.sdo.specs.declared.types.Answer.TheVariants.{Silent, Aborted, Value, Written}
+use Rattle.sdo.specs.Frames.{Answer, reply_to}
 use Rattle.printer.specs.declared.reading.Request.{Request}
 use Rattle.printer.specs.declared.reading.Request.TheVariants.{Frame, Tick}
 use Rattle.printer.specs.Reading.{asked}
@@ -47,10 +45,8 @@ tick_most commands register four =
 
 shown_most : (frame : List ℕ) (a : Answer) → length (shown frame a) ≤ 33
 unfolding shown silent_line ended
-shown_most frame Silent = lit≤ tt
-shown_most frame (Aborted a) = reply_most (reply_to frame (Aborted a))
-shown_most frame (Value word size) = reply_most (reply_to frame (Value word size))
-shown_most frame (Written slot word) = reply_most (reply_to frame (Written slot word))
+shown_most frame None = lit≤ tt
+shown_most frame (Some done) = reply_most (reply_to frame (Some done))
 
 done_most : (asked : Option Request) (unit : List ℕ) → length (done asked unit).printed ≤ 33
 unfolding done served sampled unheard state_line unknown_line ended
