@@ -15,7 +15,8 @@ use Rattle.dictionary.specs.Names.{configured}
 use Rattle.dictionary.specs.Unit.{unit_size}
 use Rattle.dictionary.specs.declared.types.Range.{Range}
 use Rattle.dictionary.proofs.naming.NameLaws as Names
-use Rattle.entries.specs.Judge.{in_range, is_good}
+use Rattle.std.specs.Prelude.{is_ok}
+use Rattle.entries.specs.Judge.{in_range}
 use Rattle.entries.specs.Valid.{Valid}
 use Rattle.records.specs.Layout.{Listed, listed, size, entry, extent, record_of, records, image_of}
 use Rattle.records.specs.Walk.{size_in, index_in, sub_in, data_in, fits, values, valued, sized, decoded, and_then, behind, walked, taken_in}
@@ -110,7 +111,7 @@ module _ {image : List ℕ} (c : Complete image) where
 
   -- a proper one is good
   pub proper_good : Valid (configuration_in image) → reading image ≡ Good
-  unfolding configuration_in fits is_good
+  unfolding configuration_in fits
   proper_good v =
       accepts image (record {
         long = long;
@@ -123,7 +124,7 @@ module _ {image : List ℕ} (c : Complete image) where
       })
     where
       inside : (k : ℕ) → k < configured → fits (entry listed k) (get_or (configuration_in image) k 0) ≡ true
-      inside k l = ap (λ (r : Range). is_good (in_range r (get_or (configuration_in image) k 0))) (own_range k l) ∙ ap is_good (v.ranged k l)
+      inside k l = ap (λ (r : Range). is_ok (in_range r (get_or (configuration_in image) k 0))) (own_range k l) ∙ ap is_ok (v.ranged k l)
 
 pub good : {image : List ℕ} → Proper image → reading image ≡ Good
 good p = proper_good p.complete p.valid

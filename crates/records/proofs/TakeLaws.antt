@@ -109,7 +109,7 @@ module _ {role : ℕ} (small : role < 8) where
   unfolding in_range finite within number_of below first
   small_fits word = rw small_range (go (ltb (greatest role) (word % 0x100)))
     where
-      go : (b : Bool) → is_ok (first b (Err Above) (first (ltb (word % 0x100) 0) (Err Below) (Ok tt))) ≡ not b
+      go : (b : Bool) → is_ok (first b (Err Above) (first (ltb (word % 0x100) 0) (Err Below) (Ok (tt {0})))) ≡ not b
       go true = refl
       go false = rw (le-ltb (word % 0x100) 0 zero-le)
 
