@@ -33,7 +33,6 @@ use Rattle.sdo.specs.declared.types.Done.TheVariants.{Value, Written}
 use Rattle.sdo.specs.declared.types.Command.{Command}
 use Rattle.sdo.specs.declared.types.Command.TheVariants.{Read, Write}
 use Rattle.sdo.specs.declared.types.Abort.{Abort}
-use Rattle.sdo.specs.declared.types.Done.{Done}
 use Rattle.sdo.proofs.AnswerLaws.{spoken, an_answer, read_only, in_full}
 use Rattle.sdo.proofs.Clearing.{any_good}
 use Rattle.unit.specs.Entry.{entry}

@@ -1,8 +1,5 @@
 -- By whether the frame is answered.
 -- Assumes nothing.
-use mathlib.Core.Path.{ap, ◌∙◌}
-use lib.ListN.{length}
-use Rattle.sdo.specs.Frames.{reply_to}
 use Rattle.sdo.proofs.ReplyLaws.{eight}
 use Rattle.firmware.proofs.Replies.{silent, replied}
 use Rattle.firmware.proofs.valve_serve.Goals as goal
