@@ -19,7 +19,6 @@ use image::refusals::number_of;
 use image::writing::write;
 use roles::start::start_in;
 use sdo::serving::serve;
-use sdo::types::Answer;
 use unit::words::{byte_at, whole_at};
 use why::asking::why;
 use why::types::{TRAIL, Why};
@@ -34,12 +33,9 @@ pub fn valve_start(unit: &mut Unit)
 pub fn valve_serve(unit: &mut Unit, frame: &[u8], reply: &mut [u8]) -> i32
     ensures { Replied unit.old frame.now reply.old unit.new reply.new result }
 {
-    let answer = serve(unit, frame, reply);
-    match answer {
-        Answer::Silent => 0,
-        Answer::Aborted(_) => 8,
-        Answer::Value(_, _) => 8,
-        Answer::Written(_, _) => 8,
+    match serve(unit, frame, reply) {
+        Some(_) => 8,
+        None => 0,
     }
 }
 

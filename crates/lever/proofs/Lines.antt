@@ -1,4 +1,4 @@
--- What the answering functions share: a line told in another way, the numbers after O, and the verb decides.
+-- What the answering functions share: a line told in another way, the numbers after O, and what is asked decides.
 -- Assumes nothing.
 use Prim.Native.Nat.{ℕ, ◌<◌, ◌≤◌}
 use mathlib.Core.List.{List, [], ◌∷◌}
@@ -6,15 +6,15 @@ use mathlib.Core.Path.{◌≡◌, refl, sym, subst}
 use borrow.Author.Tests.{le-leb, lt-leb}
 use lib.IntN.{ℤ, pos}
 use lib.ListN.{length, get_or}
+use Rattle.std.specs.Prelude.{Some, None}
 use Rattle.numbers.specs.Choice.{first}
 use Rattle.firmware.specs.Published.{commands, register}
 use Rattle.spool.specs.Interlock.{coil_1, coil_2}
 use Rattle.printer.specs.Printing.{Printed, tick_line, unknown_line}
 use Rattle.printer.specs.Answering as core
 use Rattle.printer.specs.Reading.{asked}
-use Rattle.printer.specs.declared.reading.Request.{Request}
-use Rattle.printer.specs.declared.reading.Verb.TheVariants.{Frame, Tick, Unknown}
-use Rattle.lever.specs.Told.{Told, sent_line, sampled, passed, by_verb, told, Answers}
+use Rattle.printer.specs.declared.reading.Request.TheVariants.{Frame, Tick}
+use Rattle.lever.specs.Told.{Told, sent_line, sampled, passed, by_request, told, Answers}
 
 pub answers : {s t : Told} {unit : List ℕ} {sent : List ℤ} {before after : List ℕ} {n : ℕ} → t ≡ s → Answers s unit sent before after n → Answers t unit sent before after n
 answers {s} {t} {unit} {sent} {before} {after} {n} e a = subst (λ (x : Told). Answers x unit sent before after n) (sym e) a
@@ -29,18 +29,18 @@ module _ (line unit : List ℕ) (sent : List ℤ) where
   unfolding told first
   too_long h = rw (lt-leb (length line) 64 h)
 
-  module _ (q : Request) (e : q ≡ asked line) (short : length line ≤ 64) where
-    pub framed : q.verb ≡ Frame → told line unit sent ≡ passed (core.said line unit) sent
-    unfolding told first by_verb
-    framed v = rw (le-leb (length line) 64 short, ← e, v)
+  module _ (short : length line ≤ 64) where
+    pub framed : (frame : List ℕ) → asked line ≡ Some (Frame frame) → told line unit sent ≡ passed (core.said line unit) sent
+    unfolding told first by_request
+    framed frame e = rw (le-leb (length line) 64 short, e)
 
-    pub timed : q.verb ≡ Tick → told line unit sent ≡ sampled q.samples unit sent
-    unfolding told first by_verb
-    timed v = rw (le-leb (length line) 64 short, ← e, v, ← e)
+    pub timed : (samples : List ℤ) → asked line ≡ Some (Tick samples) → told line unit sent ≡ sampled samples unit sent
+    unfolding told first by_request
+    timed samples e = rw (le-leb (length line) 64 short, e)
 
-    pub unknown : q.verb ≡ Unknown → told line unit sent ≡ passed (core.said line unit) sent
-    unfolding told first by_verb
-    unknown v = rw (le-leb (length line) 64 short, ← e, v)
+    pub unknown : asked line ≡ None → told line unit sent ≡ passed (core.said line unit) sent
+    unfolding told first by_request
+    unknown e = rw (le-leb (length line) 64 short, e)
 
 -- the core's answer, beside coils that are sent nothing new
 pub beside : {s : core.Said} {unit before after : List ℕ} {n : ℕ} (sent : List ℤ) → core.Answers s unit before after n → Answers (passed s sent) unit sent before after n

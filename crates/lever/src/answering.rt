@@ -8,7 +8,7 @@ use firmware::{valve_commands, valve_error_register};
 use printer::answer_lines::show_tick;
 use printer::answering;
 use printer::printing::show_unknown;
-use printer::reading::{Verb, read};
+use printer::reading::{Request, read};
 use spool::spool_tick;
 
 // What the coils are sent, the commands of outputs 3 and 4, and the register.
@@ -35,12 +35,9 @@ pub fn answer(unit: &mut Unit, sent: &mut [i16; 2], line: &[u8], out: &mut [u8; 
     if line.len() > 64 {
         return show_unknown(out);
     }
-    let request = read(line);
-    let verb = request.verb;
-    let samples = request.samples;
-    match verb {
-        Verb::Frame => answering::answer(unit, line, out),
-        Verb::Tick => take_tick(unit, sent, samples, out),
-        Verb::Unknown => answering::answer(unit, line, out),
+    match read(line) {
+        Some(Request::Frame(_)) => answering::answer(unit, line, out),
+        Some(Request::Tick(samples)) => take_tick(unit, sent, samples, out),
+        None => answering::answer(unit, line, out),
     }
 }

@@ -1,33 +1,33 @@
 -- A line cut at its spaces.
 -- Assumes nothing.
-use Prim.Native.Nat.{ℕ, suc, ◌+◌, ◌-◌, ◌<◌, ◌≤◌}
-use mathlib.Core.Bool.{Bool, true, false}
+use Prim.Native.Nat.{ℕ, suc, ◌-◌, ◌≤◌}
+use mathlib.Core.Bool.{Bool, true, false, cond}
 use mathlib.Core.List.{List, [], ◌∷◌, ◌++◌}
 use mathlib.Core.Path.{◌≡◌, refl, ap}
 use native.Mathlib.Omega.{arith}
-use native.Mathlib.Numerals.{add-one}
-use borrow.Author.Tests.{eq-eqb, ne_eqb}
 use lib.Dec.{eqb}
-use lib.ListN.{length, take, drop, get_or, drop_of_length-le, length-drop}
-use lib.Seq.{take_all, drop-cons}
+use lib.ListN.{length, take, drop, length-drop}
+use lib.Seq.{take_all}
+use denote.Param.Members.{Mut}
+use denote.Ref.{Bor}
+use Rattle.std.specs.Fn.{CalledAt}
+use Rattle.std.specs.List.{slice_split, onto_first}
+use Rattle.std.specs.Slice.Iter.{split_rest, split_done, split_callee, split_steps}
+use Rattle.std.proofs.lemmas.Iterator.{YieldsList}
+use Rattle.std.proofs.lemmas.Iterator.Splits.{YieldsList-from_slice_split}
 use Rattle.numbers.specs.Choice.{first, every}
 use Rattle.printer.specs.Reading.{fields, ahead}
-use Rattle.printer.specs.Steps.{span, following}
 use Rattle.printer.proofs.Every.{both}
 
--- ---- the first space, looked for from left to right
-module _ (l : List ℕ) (i : ℕ) where
-  pub span_stop : i < length l → get_or l i 0 ≡ 0x20 → span (drop i l) ≡ 0
-  unfolding span first
-  span_stop h e = rw (drop-cons l i 0 h, eq-eqb (get_or l i 0) 0x20 e)
+-- how many bytes stand before the first space
+unfoldable pub span : List ℕ → ℕ
+span [] = 0
+span (b ∷ rest) = first (eqb b 0x20) 0 (suc (span rest))
 
-  pub span_step : i < length l → (get_or l i 0 ≡ 0x20 → ⊥) → span (drop i l) ≡ suc (span (drop (i + 1) l))
-  unfolding span first
-  span_step h e = rw (add-one, drop-cons l i 0 h, ne_eqb (get_or l i 0) 0x20 e)
-
-  pub span_end : length l ≤ i → span (drop i l) ≡ 0
-  unfolding span
-  span_end h = rw (drop_of_length-le l h)
+-- the fields past the space that a rest begins with; at the line's end there are none
+unfoldable pub following : List ℕ → List (List ℕ)
+following [] = []
+following (space ∷ rest) = fields rest
 
 pub span_within : (l : List ℕ) → span l ≤ length l
 unfolding span first
@@ -46,6 +46,21 @@ cut (b ∷ rest) = either (eqb b 0x20) (cut rest) where
       → first t ([] ∷ fields rest) (ahead b (fields rest)) ≡ take (first t 0 (suc (span rest))) (b ∷ rest) ∷ following (drop (first t 0 (suc (span rest))) (b ∷ rest))
   either true e = refl
   either false e = ap (ahead b) e
+
+-- the fields are the parts of std's split
+fields_split : (l : List ℕ) → fields l ≡ slice_split (λ b. eqb b 0x20) l
+unfolding fields ahead first
+fields_split [] = refl
+fields_split (b ∷ rest) = rw (fields_split rest) (either (eqb b 0x20) (slice_split (λ b. eqb b 0x20) rest)) where
+  either : (t : Bool) (parts : List (List ℕ)) → first t ([] ∷ parts) (ahead b parts) ≡ cond t ([] ∷ parts) (onto_first b parts)
+  either true parts = refl
+  either false [] = refl
+  either false (part ∷ parts) = refl
+
+-- so a loop over `split`, by a closure that tells a space, goes over the fields
+pub road : {F : Type 0} {s : _} (g : Mut F (Bor ℕ × Unit {0}) Bool) {f : F} (l : List ℕ) → split_rest s ≡ l → split_done s ≡ false → split_callee s ≡ f
+    → ((x : ℕ) (b : Bool) (q : F) → CalledAt g f x b q → (q ≡ f) × (b ≡ eqb x 0x20)) → YieldsList (split_steps g) (λ x. x.now) s (fields l)
+road g l r d c k = rw (fields_split l) (YieldsList-from_slice_split g (λ b. eqb b 0x20) l r d c k)
 
 -- ---- bytes that pass a test which no space passes stay in one field
 module _ (test : ℕ → Bool) (no : (b : ℕ) → test b ≡ true → eqb b 0x20 ≡ false) where

@@ -8,6 +8,7 @@ use native.Mathlib.Omega.{arith}
 use native.Mathlib.Nat.{mod-eq_of_lt, pow-suc, pow-le-pow_right}
 use native.Mathlib.Numerals.{add-one}
 use borrow.Author.Tests.{le-ltb, lt-leb, le-leb, eq-eqb, ne_eqb, ltb-true, ltb-false, leb-true}
+use Rattle.std.specs.Prelude.{Option, Some, None}
 use lib.Dec.{leb, ltb, lit<, leb-suc-suc}
 use lib.IntN.{ℤ, pos, neg_ℤ}
 use lib.ListN.{length, drop, get_or, drop_of_length-le}
@@ -17,47 +18,41 @@ use Rattle.numbers.specs.Order.{below}
 use Rattle.numbers.specs.Signed.{twos, signed16}
 use Rattle.printer.specs.Reading.{is_digit, tens, size_of_digits, is_digits, is_integer16, is_decimal, minus, unsigned, value_of}
 use Rattle.printer.specs.Steps.{size_read, number_read}
-use Rattle.printer.specs.declared.reading.decimal.Size.{Size}
-use Rattle.printer.specs.declared.reading.decimal.Size.TheVariants as size
-use Rattle.printer.specs.declared.reading.decimal.Number.TheVariants as number
-use Rattle.printer.proofs.Every.{both, chosen, passed}
+use Rattle.printer.proofs.Every.{both, chosen, passed, some_none}
+use Rattle.std.proofs.lemmas.Option.{none-some}
 
 -- ---- one digit
 pub digit_yes : (b : ℕ) → 0x30 ≤ b → b ≤ 0x39 → is_digit b ≡ true
 unfolding is_digit
 digit_yes b h k = rw (le-leb 0x30 b h, le-leb b 0x39 k)
 
-pub digit_low : (b : ℕ) → b < 0x30 → is_digit b ≡ false
+pub digit_small : (b : ℕ) → is_digit b ≡ true → b - 0x30 < 10
 unfolding is_digit
-digit_low b h = rw (lt-leb 0x30 b h)
-
-pub digit_high : (b : ℕ) → 0x39 < b → is_digit b ≡ false
-unfolding is_digit
-digit_high b h = rw (lt-leb b 0x39 h) (and-false (leb 0x30 b))
+digit_small b e = omega (arith, leb-true b 0x39 (both (leb 0x30 b) (leb b 0x39) e).1)
 
 -- ---- the digits that are left, behind the number n that is read already
-unfoldable pub sized_from : ℕ → List ℕ → ℕ → Size
-sized_from n rest limit = first (every is_digit rest && leb (foldl tens n rest) limit) (size.Is (foldl tens n rest)) size.Bad
+unfoldable pub sized_from : ℕ → List ℕ → ℕ → Option ℕ
+sized_from n rest limit = first (every is_digit rest && leb (foldl tens n rest) limit) (Some (foldl tens n rest)) None
 
 module _ (l : List ℕ) (limit : ℕ) where
   pub sized_start : 1 ≤ length l → length l ≤ 5 → size_read l limit ≡ sized_from 0 (drop 0 l) limit
   unfolding size_read sized_from size_of_digits is_digits
   sized_start h k = rw (le-leb 1 (length l) h, le-leb (length l) 5 k)
 
-  pub sized_none : length l < 1 → size_read l limit ≡ size.Bad
+  pub sized_none : length l < 1 → size_read l limit ≡ None
   unfolding size_read is_digits first
   sized_none h = rw (lt-leb 1 (length l) h)
 
-  pub sized_long : 5 < length l → size_read l limit ≡ size.Bad
+  pub sized_long : 5 < length l → size_read l limit ≡ None
   unfolding size_read is_digits first
   sized_long h = rw (lt-leb (length l) 5 h, and-false (leb 1 (length l)))
 
   module _ (n i : ℕ) (h : length l ≤ i) where
-    pub sized_end : n ≤ limit → sized_from n (drop i l) limit ≡ size.Is n
+    pub sized_end : n ≤ limit → sized_from n (drop i l) limit ≡ Some n
     unfolding sized_from every first
     sized_end k = rw (drop_of_length-le l h, le-leb n limit k)
 
-    pub sized_over : limit < n → sized_from n (drop i l) limit ≡ size.Bad
+    pub sized_over : limit < n → sized_from n (drop i l) limit ≡ None
     unfolding sized_from every first
     sized_over k = rw (drop_of_length-le l h, lt-leb n limit k)
 
@@ -66,7 +61,7 @@ module _ (l : List ℕ) (limit : ℕ) where
     unfolding sized_from every
     sized_step e = rw (add-one, drop-cons l i 0 h, e)
 
-    pub sized_stop : is_digit (get_or l i 0) ≡ false → sized_from n (drop i l) limit ≡ size.Bad
+    pub sized_stop : is_digit (get_or l i 0) ≡ false → sized_from n (drop i l) limit ≡ None
     unfolding sized_from every first
     sized_stop e = rw (drop-cons l i 0 h, e)
 
@@ -78,19 +73,16 @@ pub small : (n i : ℕ) → n < 10 ^ i → i ≤ 5 → n < 100000
 small n i h k = let p : 10 ^ i ≤ 10 ^ 5 = pow-le-pow_right (lit< tt) k in omega arith
 
 -- ---- what read digits tell
-no_size : (n : ℕ) → size.Is n ≡ size.Bad → ⊥
-no_size n e = let z : ◌≡◌ {A = ℕ} 0 1 = cc in omega arith
-
 module _ (d : List ℕ) (limit : ℕ) where
-  told_bad : size_read d limit ≡ size.Bad → (is_digits d && leb (size_of_digits d) limit) ≡ false
+  told_bad : size_read d limit ≡ None → (is_digits d && leb (size_of_digits d) limit) ≡ false
   unfolding size_read
-  told_bad e = passed (is_digits d && leb (size_of_digits d) limit) (size.Is (size_of_digits d)) size.Bad (no_size (size_of_digits d)) e
+  told_bad e = passed (is_digits d && leb (size_of_digits d) limit) (Some (size_of_digits d)) None (some_none (size_of_digits d)) e
 
-  told_is : (n : ℕ) → size_read d limit ≡ size.Is n → ((is_digits d && leb (size_of_digits d) limit) ≡ true) × (size.Is (size_of_digits d) ≡ size.Is n)
+  told_is : (n : ℕ) → size_read d limit ≡ Some n → ((is_digits d && leb (size_of_digits d) limit) ≡ true) × (Some (size_of_digits d) ≡ Some n)
   unfolding size_read
-  told_is n e = chosen (is_digits d && leb (size_of_digits d) limit) (size.Is (size_of_digits d)) size.Bad (size.Is n) (λ q. no_size n (sym q)) e
+  told_is n e = chosen (is_digits d && leb (size_of_digits d) limit) (Some (size_of_digits d)) None (Some n) (none-some n) e
 
-pub sized_most : (l : List ℕ) (limit n : ℕ) → size_read l limit ≡ size.Is n → n ≤ limit
+pub sized_most : (l : List ℕ) (limit n : ℕ) → size_read l limit ≡ Some n → n ≤ limit
 sized_most l limit n e =
     let k = told_is l limit n e in
     let m : size_of_digits l ≡ n = let q = k.1 in cc in
@@ -122,7 +114,7 @@ complement (suc m) h =
     rw (mod-eq_of_lt k, le-ltb (65536 - suc m) 0x8000 (omega arith), back)
 
 -- ---- a field, told by its first byte and its digits
-pub number_none : (l : List ℕ) → length l < 1 → number_read l ≡ number.Bad
+pub number_none : (l : List ℕ) → length l < 1 → number_read l ≡ None
 unfolding number_read is_decimal is_digits unsigned minus first
 number_none [] h = refl
 number_none (b ∷ rest) h = absurd (omega arith)
@@ -139,15 +131,15 @@ minus_no (b ∷ rest) e = ne_eqb b 0x2D e
 
 -- the digits d of a field l, and the number z that they make of a size, an INTEGER16 up to a limit
 module _ (l d : List ℕ) (z : ℕ → ℤ) (limit : ℕ) (digits : unsigned l ≡ d) (made : value_of l ≡ z (size_of_digits d)) (inside : (n : ℕ) → is_integer16 (z n) ≡ leb n limit) where
-  by_size : number_read l ≡ first (is_digits d && leb (size_of_digits d) limit) (number.Is (z (size_of_digits d))) number.Bad
+  by_size : number_read l ≡ first (is_digits d && leb (size_of_digits d) limit) (Some (z (size_of_digits d))) None
   unfolding number_read is_decimal
   by_size = rw (digits, made, inside (size_of_digits d))
 
-  number_bad : size_read d limit ≡ size.Bad → number_read l ≡ number.Bad
+  number_bad : size_read d limit ≡ None → number_read l ≡ None
   unfolding first
   number_bad e = by_size ∙ rw (told_bad d limit e)
 
-  number_is : (n : ℕ) → size_read d limit ≡ size.Is n → number_read l ≡ number.Is (z n)
+  number_is : (n : ℕ) → size_read d limit ≡ Some n → number_read l ≡ Some (z n)
   unfolding first
   number_is n e =
       let k = told_is d limit n e in
@@ -163,10 +155,10 @@ module _ (l : List ℕ) (e : get_or l 0 0 ≡ 0x2D) where
   unfolding value_of first
   minus_made = rw (minus_digits, minus_yes l e)
 
-  pub minus_bad : size_read (drop 1 l) 32768 ≡ size.Bad → number_read l ≡ number.Bad
+  pub minus_bad : size_read (drop 1 l) 32768 ≡ None → number_read l ≡ None
   minus_bad = number_bad l (drop 1 l) (λ (n : ℕ). neg_ℤ (pos n)) 32768 minus_digits minus_made minus_in
 
-  pub minus_is : (n : ℕ) → size_read (drop 1 l) 32768 ≡ size.Is n → number_read l ≡ number.Is (neg_ℤ (pos n))
+  pub minus_is : (n : ℕ) → size_read (drop 1 l) 32768 ≡ Some n → number_read l ≡ Some (neg_ℤ (pos n))
   minus_is = number_is l (drop 1 l) (λ (n : ℕ). neg_ℤ (pos n)) 32768 minus_digits minus_made minus_in
 
 module _ (l : List ℕ) (e : get_or l 0 0 ≡ 0x2D → ⊥) where
@@ -178,8 +170,8 @@ module _ (l : List ℕ) (e : get_or l 0 0 ≡ 0x2D → ⊥) where
   unfolding value_of first
   plain_made = rw (plain_digits, minus_no l e)
 
-  pub plain_bad : size_read l 32767 ≡ size.Bad → number_read l ≡ number.Bad
+  pub plain_bad : size_read l 32767 ≡ None → number_read l ≡ None
   plain_bad = number_bad l l pos 32767 plain_digits plain_made plain_in
 
-  pub plain_is : (n : ℕ) → size_read l 32767 ≡ size.Is n → number_read l ≡ number.Is (pos n)
+  pub plain_is : (n : ℕ) → size_read l 32767 ≡ Some n → number_read l ≡ Some (pos n)
   plain_is = number_is l l pos 32767 plain_digits plain_made plain_in

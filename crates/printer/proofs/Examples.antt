@@ -5,6 +5,7 @@ use Prim.Native.Char.{code}
 use Prim.Native.String.{String, [] as end, ◌∷◌ as ◌then◌}
 use mathlib.Core.List.{List, [], ◌∷◌}
 use mathlib.Core.Path.{◌≡◌, refl}
+use Rattle.std.specs.Prelude.{Option}
 use lib.IntN.{pos, negsuc}
 use Rattle.numbers.specs.Choice.{first, every}
 use Rattle.numbers.specs.Order.{below}
@@ -17,7 +18,7 @@ unfoldable pub bytes : String → List ℕ
 bytes end = []
 bytes (c then rest) = code c ∷ bytes rest
 
-unfoldable pub readings : List Request
+unfoldable pub readings : List (Option Request)
 readings =
     asked (bytes "S 4001100000000000")
     ∷ asked (bytes "S 2B15300296000000")

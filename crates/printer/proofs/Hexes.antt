@@ -7,15 +7,17 @@ use mathlib.Core.Path.{◌≡◌, refl, ap, sym, ◌∙◌}
 use native.Mathlib.Omega.{arith}
 use native.Mathlib.Numerals.{add-one}
 use borrow.Author.Tests.{eq-eqb, ne_eqb, leb-true}
+use Rattle.std.specs.Prelude.{Option, Some, None}
 use lib.Dec.{eqb, leb}
 use lib.ListN.{length, take, drop, get_or, set, take-append-drop, drop_of_length-le}
 use lib.Seq.{drop-cons, take-suc-set, take_all}
 use Rattle.numbers.specs.Choice.{first, every}
 use Rattle.printer.specs.Reading.{fields, is_hex, hex_value, is_frame, bytes_of_digits, unknown, frame_of, asked_frame}
-use Rattle.printer.specs.Steps.{nibble_of, span, following}
+use Rattle.printer.specs.Steps.{nibble_of}
 use Rattle.printer.specs.declared.reading.Request.{Request}
-use Rattle.printer.proofs.Cutting.{cut, whole}
-use Rattle.printer.proofs.Every.{both}
+use Rattle.printer.proofs.Cutting.{cut, whole, span, following}
+use Rattle.printer.proofs.Every.{both, chosen, passed, some_none}
+use Rattle.std.proofs.lemmas.Option.{none-some}
 
 -- ---- one digit
 hex_small : (b : ℕ) → is_hex b ≡ true → hex_value b < 16
@@ -31,19 +33,17 @@ hex_no_space : (b : ℕ) → is_hex b ≡ true → eqb b 0x20 ≡ false
 unfolding is_hex
 hex_no_space b e = ne_eqb b 0x20 (λ q. let k : is_hex 0x20 ≡ true = rw q at e in let z : ◌≡◌ {A = ℕ} 0 1 = cc in omega arith)
 
-nibble_yes : (b : ℕ) → nibble_of b ≤ 15 → (is_hex b ≡ true) × (nibble_of b ≡ hex_value b)
-unfolding nibble_of first
-nibble_yes b h = go (is_hex b) refl where
-  go : (t : Bool) → is_hex b ≡ t → (is_hex b ≡ true) × (nibble_of b ≡ hex_value b)
-  go true p = (p, rw p)
-  go false p = let k : 16 ≤ 15 = rw p at h in absurd (omega arith)
+-- what a nibble tells of its digit
+nibble_is : (b v : ℕ) → nibble_of b ≡ Some v → (is_hex b ≡ true) × (hex_value b ≡ v)
+unfolding nibble_of
+nibble_is b v e = let k = chosen (is_hex b) (Some (hex_value b)) None (Some v) (none-some v) e in let same : hex_value b ≡ v = let q = k.1 in cc in (k.0, same)
 
-nibble_no : (b : ℕ) → 15 < nibble_of b → is_hex b ≡ false
-unfolding nibble_of first
-nibble_no b h = go (is_hex b) refl where
-  go : (t : Bool) → is_hex b ≡ t → is_hex b ≡ false
-  go true p = let k : 15 < hex_value b = rw p at h in absurd (omega (arith, hex_small b p))
-  go false p = p
+nibble_none : (b : ℕ) → nibble_of b ≡ None → is_hex b ≡ false
+unfolding nibble_of
+nibble_none b e = passed (is_hex b) (Some (hex_value b)) None (some_none (hex_value b)) e
+
+pub nibble_small : (b v : ℕ) → nibble_of b ≡ Some v → v < 16
+nibble_small b v e = let k = nibble_is b v e in omega (arith, k.1, hex_small b k.0)
 
 -- ---- a field of hex digits has no space in it
 frame_of_lem : (d : List ℕ) → asked_frame (fields d) ≡ first (is_frame d) (frame_of (bytes_of_digits d)) unknown
@@ -65,7 +65,7 @@ frame_of_lem d = go (is_frame d) refl where
   go false p = other p (drop (span d) d) refl
 
 -- ---- the bytes read so far, and the digits that are left
-unfoldable pub framed_from : List ℕ → List ℕ → Request
+unfoldable pub framed_from : List ℕ → List ℕ → Option Request
 framed_from done rest = first (every is_hex rest) (frame_of (done ++ bytes_of_digits rest)) unknown
 
 module _ (d : List ℕ) where
@@ -88,20 +88,18 @@ module _ (d : List ℕ) where
         drop-cons d (2 * k) 0 (omega arith)
         ∙ ap (λ (r : List ℕ). get_or d (2 * k) 0 ∷ r) (ap (λ (n : ℕ). drop n d) (sym (add-one (2 * k))) ∙ drop-cons d (2 * k + 1) 0 h ∙ ap (λ (n : ℕ). get_or d (2 * k + 1) 0 ∷ drop n d) next)
 
-    pub high_bad : (done : List ℕ) → 15 < nibble_of (get_or d (2 * k) 0) → framed_from done (drop (2 * k) d) ≡ unknown
+    pub high_bad : (done : List ℕ) → nibble_of (get_or d (2 * k) 0) ≡ None → framed_from done (drop (2 * k) d) ≡ unknown
     unfolding framed_from every first
-    high_bad done b = rw (two, nibble_no (get_or d (2 * k) 0) b)
+    high_bad done b = rw (two, nibble_none (get_or d (2 * k) 0) b)
 
-    pub low_bad : (done : List ℕ) → 15 < nibble_of (get_or d (2 * k + 1) 0) → framed_from done (drop (2 * k) d) ≡ unknown
+    pub low_bad : (done : List ℕ) → nibble_of (get_or d (2 * k + 1) 0) ≡ None → framed_from done (drop (2 * k) d) ≡ unknown
     unfolding framed_from every first
-    low_bad done b = rw (two, nibble_no (get_or d (2 * k + 1) 0) b, and-false (is_hex (get_or d (2 * k) 0)))
+    low_bad done b = rw (two, nibble_none (get_or d (2 * k + 1) 0) b, and-false (is_hex (get_or d (2 * k) 0)))
 
-    pub frame_step : (bytes : List ℕ) (high low : ℕ) → k < length bytes → high ≡ nibble_of (get_or d (2 * k) 0) → low ≡ nibble_of (get_or d (2 * k + 1) 0) → high ≤ 15 → low ≤ 15
+    pub frame_step : (bytes : List ℕ) (high low : ℕ) → k < length bytes → nibble_of (get_or d (2 * k) 0) ≡ Some high → nibble_of (get_or d (2 * k + 1) 0) ≡ Some low
         → framed_from (take k bytes) (drop (2 * k) d) ≡ framed_from (take (k + 1) (set bytes k (16 * high + low))) (drop (2 * (k + 1)) d)
     unfolding framed_from every bytes_of_digits
-    frame_step bytes high low room eh el h l =
-        let x = get_or d (2 * k) 0 in
-        let y = get_or d (2 * k + 1) 0 in
-        let p : (is_hex x ≡ true) × (nibble_of x ≡ hex_value x) = nibble_yes x (rw eh at h) in
-        let q : (is_hex y ≡ true) × (nibble_of y ≡ hex_value y) = nibble_yes y (rw el at l) in
-        rw (two, p.0, q.0, add-one k, take-suc-set bytes k (16 * high + low) room, append_assoc (take k bytes), eh, el, p.1, q.1)
+    frame_step bytes high low room eh el =
+        let p = nibble_is (get_or d (2 * k) 0) high eh in
+        let q = nibble_is (get_or d (2 * k + 1) 0) low el in
+        rw (two, p.0, q.0, add-one k, take-suc-set bytes k (16 * high + low) room, append_assoc (take k bytes), p.1, q.1)

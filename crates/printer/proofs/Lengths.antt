@@ -10,8 +10,7 @@ use lib.Dec.{leb, eqb}
 use lib.ListN.{length, take, drop, length-drop}
 use Rattle.numbers.specs.Choice.{first, every}
 use Rattle.printer.specs.Reading.{ahead, fields, letter, is_hex, is_frame, is_digit, minus, unsigned, is_digits, is_integer16, value_of, is_decimal, unknown, asked_frame, asked_tick, asked_by, asked}
-use Rattle.printer.specs.Steps.{span, following}
-use Rattle.printer.proofs.Cutting.{cut}
+use Rattle.printer.proofs.Cutting.{cut, span, following}
 use Rattle.printer.proofs.Every.{both}
 
 -- the bytes of fields, each with one more for what ends it

@@ -3,7 +3,7 @@
 use Prim.Native.Nat.{ℕ, ◌<◌, ◌≤◌}
 use mathlib.Core.Bool.{Bool, true, false}
 use mathlib.Core.List.{List, [], ◌∷◌}
-use mathlib.Core.Path.{◌≡◌, refl, ap, sym, ◌∙◌}
+use mathlib.Core.Path.{◌≡◌, refl, ap, ◌∙◌}
 use native.Mathlib.Omega.{arith}
 use borrow.Author.Tests.{ne_eqb}
 use lib.Dec.{eqb}
@@ -11,8 +11,7 @@ use lib.ListN.{length, take, drop, get_or}
 use lib.Seq.{drop-cons}
 use Rattle.numbers.specs.Choice.{first}
 use Rattle.printer.specs.Reading.{ahead, fields, letter, unknown, asked_frame, asked_tick, asked_by, asked}
-use Rattle.printer.specs.Steps.{span, following}
-use Rattle.printer.proofs.Cutting.{cut}
+use Rattle.printer.proofs.Cutting.{cut, span, following}
 
 -- a letter alone asks for nothing
 alone : (s t : Bool) → first s (asked_frame []) (first t (asked_tick []) unknown) ≡ unknown
@@ -69,9 +68,8 @@ module _ (l : List ℕ) (h : 2 ≤ length l) where
   pub line_frame : get_or l 1 0 ≡ 0x20 → get_or l 0 0 ≡ 0x53 → asked l ≡ asked_frame (fields (drop 2 l))
   line_frame e s = ap asked split ∙ by_frame (get_or l 0 0) (get_or l 1 0) (drop 2 l) e s
 
-  pub line_tick : get_or l 1 0 ≡ 0x20 → get_or l 0 0 ≡ 0x54 → asked l ≡ asked_tick (following (drop 1 l))
-  unfolding following
-  line_tick e s = ap asked split ∙ by_tick (get_or l 0 0) (get_or l 1 0) (drop 2 l) e s ∙ ap (λ (x : List ℕ). asked_tick (following x)) (sym (drop-cons l 1 0 (omega arith)))
+  pub line_tick : get_or l 1 0 ≡ 0x20 → get_or l 0 0 ≡ 0x54 → asked l ≡ asked_tick (fields (drop 2 l))
+  line_tick e s = ap asked split ∙ by_tick (get_or l 0 0) (get_or l 1 0) (drop 2 l) e s
 
   pub line_other : get_or l 1 0 ≡ 0x20 → (get_or l 0 0 ≡ 0x53 → ⊥) → (get_or l 0 0 ≡ 0x54 → ⊥) → asked l ≡ unknown
   line_other e s t = ap asked split ∙ by_none (get_or l 0 0) (get_or l 1 0) (drop 2 l) e s t

@@ -1,4 +1,4 @@
--- What the answering functions share: a reply is what the buffer holds, the commands and the register stand in their slots, and the verb decides.
+-- What the answering functions share: a reply is what the buffer holds, the commands and the register stand in their slots.
 -- Assumes nothing.
 use Prim.Native.Nat.{ℕ, ◌<◌, ◌+◌, ◌%◌}
 use mathlib.Core.List.{List, [], ◌∷◌}
@@ -7,21 +7,19 @@ use native.Mathlib.Omega.{arith}
 use lib.Dec.{lit<}
 use lib.IntN.{ℤ}
 use lib.ListN.{get_or, replicate}
+use Rattle.std.specs.Prelude.{Some, Result, Ok, Err}
 use Rattle.numbers.specs.Signed.{signed16}
 use Rattle.octets.specs.Little.{bytes}
 use Rattle.sdo.specs.Frames.{reply_to, reply, name_in}
 use Rattle.sdo.specs.declared.types.Abort.{Abort}
-use Rattle.sdo.specs.declared.types.Answer.{Answer}
-use Rattle.sdo.specs.declared.types.Answer.TheVariants.{Silent, Aborted, Value, Written}
+use Rattle.sdo.specs.declared.types.Done.{Done}
+use Rattle.sdo.specs.declared.types.Done.TheVariants.{Value, Written}
 use Rattle.sdo.specs.Served.{filled}
 use Rattle.dictionary.specs.Names.{slot_of}
 use Rattle.unit.proofs.Slots.{has, stretch, array, var}
 use Rattle.unit.specs.Entry.{whole, byte}
-use Rattle.printer.specs.Printing.{Printed, reply_line, silent_line, tick_line}
-use Rattle.printer.specs.Reading.{asked}
-use Rattle.printer.specs.declared.reading.Request.{Request}
-use Rattle.printer.specs.declared.reading.Verb.TheVariants.{Frame, Tick, Unknown}
-use Rattle.printer.specs.Answering.{Said, shown, state_line, served, sampled, unheard, done, said, Answers}
+use Rattle.printer.specs.Printing.{Printed, reply_line, tick_line}
+use Rattle.printer.specs.Answering.{Said, shown, state_line, Answers}
 
 -- what is printed may be told in another way
 pub prints : {l m before after : List ℕ} {n : ℕ} → l ≡ m → Printed l before after n → Printed m before after n
@@ -32,22 +30,11 @@ told {s} {t} {unit} {before} {after} {n} e p = subst (λ (x : Said). Answers x u
 
 -- ---- a buffer of eight bytes after a reply holds the reply and nothing else
 
-module _ (frame : List ℕ) (r : Answer) where
-  pub silent : r ≡ Silent → silent_line ≡ shown frame r
-  unfolding shown
-  silent e = rw e refl
-
-  pub aborted : (a : Abort) → r ≡ Aborted a → reply_line (filled (replicate 8 0) frame r) ≡ shown frame r
-  unfolding shown filled reply_to reply name_in bytes
-  aborted a e = rw e refl
-
-  pub value : (word size : ℕ) → r ≡ Value word size → reply_line (filled (replicate 8 0) frame r) ≡ shown frame r
-  unfolding shown filled reply_to reply name_in bytes
-  value word size e = rw e refl
-
-  pub written : (slot word : ℕ) → r ≡ Written slot word → reply_line (filled (replicate 8 0) frame r) ≡ shown frame r
-  unfolding shown filled reply_to reply name_in bytes
-  written slot word e = rw e refl
+pub answered : (frame : List ℕ) (d : Result Done Abort) → reply_line (filled (replicate 8 0) frame (Some d)) ≡ shown frame (Some d)
+unfolding shown filled reply_to reply name_in bytes
+answered frame (Err a) = refl
+answered frame (Ok (Value word size)) = refl
+answered frame (Ok (Written slot word)) = refl
 
 -- ---- 7330h:1-4 and 1001h, by their names
 
@@ -62,18 +49,3 @@ module _ (unit : List ℕ) (a b c d : ℤ) (register : ℕ) {slot place : ℕ} (
   state_line_lem ea eb ec ed er =
       let one : slot_of 0x7330 1 ≡ slot = commands 0 (lit< tt) at ∙ omega arith in
       rw (one, commands 1 (lit< tt) at, commands 2 (lit< tt) at, commands 3 (lit< tt) at, var 0x1001 there, ea, eb, ec, ed, er)
-
--- ---- by the verb
-
-module _ (line : List ℕ) (unit : List ℕ) (q : Request) (e : q ≡ asked line) where
-  pub framed : q.verb ≡ Frame → said line unit ≡ served q.frame unit
-  unfolding said done
-  framed v = rw (← e, v) refl
-
-  pub timed : q.verb ≡ Tick → said line unit ≡ sampled q.samples unit
-  unfolding said done
-  timed v = rw (← e, v) refl
-
-  pub unknown : q.verb ≡ Unknown → said line unit ≡ unheard unit
-  unfolding said done
-  unknown v = rw (← e, v) refl

@@ -1,18 +1,16 @@
 -- What a line prints, and what it does to the unit: "S and 16 hex digits: prints the reply, or -. T and four decimal INTEGER16: prints O, the four
 -- commands, 1001h as two hex digits. .. Any other line, empty or longer too, prints ?."
 -- Assumes nothing.
-use Rattle.std.specs.Prelude.{ℕ, List, [], ◌∷◌, ◌≡◌, ℤ}
+use Rattle.std.specs.Prelude.{ℕ, List, [], ◌∷◌, ◌≡◌, ℤ, Option, Some, None}
 use Rattle.sdo.specs.Answers as frames
-use Rattle.sdo.specs.Frames.{reply_to}
-use Rattle.sdo.specs.declared.types.Answer.{Answer}
-use Rattle.sdo.specs.declared.types.Answer.TheVariants.{Silent, Aborted, Value, Written}
+use Rattle.sdo.specs.Frames.{Answer, reply_to}
 use Rattle.sdo.specs.Served.{after}
 use Rattle.unit.specs.Entry.{whole, byte}
 use Rattle.controller.specs.Tick.{ticked}
 use Rattle.printer.specs.Printing.{Printed, reply_line, silent_line, tick_line, unknown_line}
 use Rattle.printer.specs.Reading.{asked}
-use Rattle.printer.specs.declared.reading.Verb.{Verb}
-use Rattle.printer.specs.declared.reading.Verb.TheVariants.{Frame, Tick, Unknown}
+use Rattle.printer.specs.declared.reading.Request.{Request}
+use Rattle.printer.specs.declared.reading.Request.TheVariants.{Frame, Tick}
 
 -- the unit that a line leaves, and what it prints
 pub record Said : Type 0 where
@@ -21,10 +19,8 @@ pub record Said : Type 0 where
 
 -- "prints the reply, or -"
 unfoldable pub shown : List ℕ → Answer → List ℕ
-shown frame Silent = silent_line
-shown frame (Aborted a) = reply_line (reply_to frame (Aborted a))
-shown frame (Value word size) = reply_line (reply_to frame (Value word size))
-shown frame (Written slot word) = reply_line (reply_to frame (Written slot word))
+shown frame None = silent_line
+shown frame (Some done) = reply_line (reply_to frame (Some done))
 
 -- a frame's answer: the reply has room for eight bytes
 unfoldable pub decided : List ℕ → List ℕ → Answer
@@ -46,15 +42,15 @@ sampled samples unit = record { left = ticked samples unit; printed = state_line
 unfoldable pub unheard : List ℕ → Said
 unheard unit = record { left = unit; printed = unknown_line }
 
--- by the verb
-unfoldable pub done : Verb → List ℕ → List ℤ → List ℕ → Said
-done Frame frame samples unit = served frame unit
-done Tick frame samples unit = sampled samples unit
-done Unknown frame samples unit = unheard unit
+-- by what is asked
+unfoldable pub done : Option Request → List ℕ → Said
+done (Some (Frame frame)) unit = served frame unit
+done (Some (Tick samples)) unit = sampled samples unit
+done None unit = unheard unit
 
 -- what a whole line does
 unfoldable pub said : List ℕ → List ℕ → Said
-said line unit = let request = asked line in done request.verb request.frame request.samples unit
+said line unit = done (asked line) unit
 
 -- what is left behind: the unit, and the lent buffer that begins with what is printed
 pub record Answers (s : Said) (unit : List ℕ) (before after : List ℕ) (count : ℕ) : Type 0 where

@@ -2,12 +2,12 @@
 -- One space between fields; decimals have an optional - and 1 to 5 digits; hex is upper case. Any other line, empty or longer too, prints ?."
 -- A line is the list of its bytes, without its line end.
 -- Assumes nothing.
-use Rattle.std.specs.Prelude.{ℕ, ◌+◌, ◌-◌, ◌*◌, Bool, false, not, ◌&&◌, ◌||◌, leb, eqb, ℤ, pos, neg_ℤ, length, get_or, drop, replicate}
+use Rattle.std.specs.Prelude.{ℕ, ◌+◌, ◌-◌, ◌*◌, Bool, false, not, ◌&&◌, ◌||◌, leb, eqb, ℤ, pos, neg_ℤ, Option, Some, None, length, get_or, drop}
 use mathlib.Core.List.{List, [], ◌∷◌, map, foldl}
 use Rattle.numbers.specs.Choice.{first, every}
 use Rattle.numbers.specs.Order.{below}
-use Rattle.printer.specs.declared.reading.Verb.TheVariants.{Frame, Tick, Unknown}
 use Rattle.printer.specs.declared.reading.Request.{Request}
+use Rattle.printer.specs.declared.reading.Request.TheVariants.{Frame, Tick}
 
 -- ---- "One space between fields"
 
@@ -86,33 +86,33 @@ is_integer16 z = not (below z (neg_ℤ (pos 32768))) && not (below (pos 32767) z
 unfoldable pub is_decimal : List ℕ → Bool
 is_decimal field = is_digits (unsigned field) && is_integer16 (value_of field)
 
--- ---- what is asked; parts that the verb does not use are zeros
+-- ---- what is asked, if anything
 
 -- "Any other line"
-unfoldable pub unknown : Request
-unknown = record { verb = Unknown; frame = replicate 8 0; samples = replicate 4 (pos 0) }
+unfoldable pub unknown : Option Request
+unknown = None
 
 -- a frame of these eight bytes
-unfoldable pub frame_of : List ℕ → Request
-frame_of bytes = record { verb = Frame; frame = bytes; samples = replicate 4 (pos 0) }
+unfoldable pub frame_of : List ℕ → Option Request
+frame_of bytes = Some (Frame bytes)
 
 -- a tick with these four samples
-unfoldable pub tick_of : List ℤ → Request
-tick_of samples = record { verb = Tick; frame = replicate 8 0; samples = samples }
+unfoldable pub tick_of : List ℤ → Option Request
+tick_of samples = Some (Tick samples)
 
 -- after S: one field, 16 hex digits
-unfoldable pub asked_frame : List (List ℕ) → Request
+unfoldable pub asked_frame : List (List ℕ) → Option Request
 asked_frame rest = first (eqb (length rest) 1 && every is_frame rest) (frame_of (bytes_of_digits (get_or rest 0 []))) unknown
 
 -- after T: four fields, each a decimal
-unfoldable pub asked_tick : List (List ℕ) → Request
+unfoldable pub asked_tick : List (List ℕ) → Option Request
 asked_tick rest = first (eqb (length rest) 4 && every is_decimal rest) (tick_of (map value_of rest)) unknown
 
 -- the first field is the letter: S is 53h, T is 54h
-unfoldable pub asked_by : List (List ℕ) → Request
+unfoldable pub asked_by : List (List ℕ) → Option Request
 asked_by [] = unknown
 asked_by (verb ∷ rest) = first (letter 0x53 verb) (asked_frame rest) (first (letter 0x54 verb) (asked_tick rest) unknown)
 
 -- what a whole line asks for
-unfoldable pub asked : List ℕ → Request
+unfoldable pub asked : List ℕ → Option Request
 asked line = asked_by (fields line)

@@ -13,13 +13,12 @@ pub fn show_reply(reply: &[u8], out: &mut [u8; 64]) -> usize
     if reply.len() < 8 {
         return 0;
     }
-    let mut k: usize = 0;
-    while k < 8 {
-        put_hex(reply[k], 2 * k, out);
-        k += 1;
+    let mut at: usize = 0;
+    for b in &reply[..8] {
+        at = put_hex(*b, at, out);
     }
-    put(out, 16, b"\n");
-    17
+    put(out, at, b"\n");
+    at + 1
 }
 
 pub fn show_tick(commands: [i16; 4], register: u8, out: &mut [u8; 64]) -> usize
@@ -27,10 +26,8 @@ pub fn show_tick(commands: [i16; 4], register: u8, out: &mut [u8; 64]) -> usize
 {
     put(out, 0, b"O");
     let mut at: usize = 1;
-    let mut k: usize = 0;
-    while k < 4 {
-        at = put_command(commands[k], at, out);
-        k += 1;
+    for command in commands {
+        at = put_command(command, at, out);
     }
     put_register(register, at, out)
 }

@@ -6,11 +6,10 @@ ghost use Rattle.printer.specs.Answering.{decided, shown, state_line, sampled, s
 
 use crate::answer_lines::{show_reply, show_tick};
 use crate::printing::{show_silent, show_unknown};
-use crate::reading::{Verb, read};
+use crate::reading::{Request, read};
 use controller::tick::tick;
 use dictionary::slots::{COMMAND, ERROR_REGISTER, Unit};
 use sdo::serving::serve;
-use sdo::types::Answer;
 use unit::words::{byte_at, whole_at};
 
 // The reply, or -.
@@ -19,12 +18,9 @@ fn serve_frame(unit: &mut Unit, frame: &[u8], out: &mut [u8; 64]) -> usize
     ensures print { Printed (shown frame.now (decided unit.old frame.now)) out.old out.new result }
 {
     let mut reply = [0u8; 8];
-    let answer = serve(unit, frame, &mut reply);
-    match answer {
-        Answer::Silent => show_silent(out),
-        Answer::Aborted(_) => show_reply(&reply, out),
-        Answer::Value(_, _) => show_reply(&reply, out),
-        Answer::Written(_, _) => show_reply(&reply, out),
+    match serve(unit, frame, &mut reply) {
+        Some(_) => show_reply(&reply, out),
+        None => show_silent(out),
     }
 }
 
@@ -52,13 +48,9 @@ fn take_tick(unit: &mut Unit, samples: [i16; 4], out: &mut [u8; 64]) -> usize
 pub fn answer(unit: &mut Unit, line: &[u8], out: &mut [u8; 64]) -> usize
     ensures { Answers (said line.now unit.old) unit.new out.old out.new result }
 {
-    let request = read(line);
-    let verb = request.verb;
-    let frame = request.frame;
-    let samples = request.samples;
-    match verb {
-        Verb::Frame => serve_frame(unit, &frame, out),
-        Verb::Tick => take_tick(unit, samples, out),
-        Verb::Unknown => show_unknown(out),
+    match read(line) {
+        Some(Request::Frame(frame)) => serve_frame(unit, &frame, out),
+        Some(Request::Tick(samples)) => take_tick(unit, samples, out),
+        None => show_unknown(out),
     }
 }

@@ -1,107 +1,71 @@
 // What a line of the session asks for. The line comes without its line end.
 mod decimal;
-mod field;
 mod hexadecimal;
 
-ghost use Rattle.std.specs.Prelude.{◌≡◌, drop};
-ghost use Rattle.printer.specs.Reading.{fields, unknown, asked_frame, asked_tick, asked};
-ghost use Rattle.printer.specs.Steps.{following};
+ghost use Rattle.std.specs.Prelude.{◌≡◌};
+ghost use Rattle.printer.specs.Reading.{fields, asked_frame, asked_tick, asked};
 
-use crate::reading::field::{Field, read_field};
+use crate::reading::decimal::read_number;
 use crate::reading::hexadecimal::nibble;
 
 #[derive(Clone, Copy)]
-pub enum Verb {
-    Frame,
-    Tick,
-    Unknown,
-}
-
-// Parts that the verb does not use are zeros.
-#[derive(Clone, Copy)]
-pub struct Request {
-    pub verb: Verb,
-    pub frame: [u8; 8],
-    pub samples: [i16; 4],
-}
-
-fn nothing() -> Request
-    ensures { result ≡ unknown }
-{
-    Request {
-        verb: Verb::Unknown,
-        frame: [0; 8],
-        samples: [0; 4],
-    }
+pub enum Request {
+    Frame([u8; 8]),
+    Tick([i16; 4]),
 }
 
 // What follows "S ": two digits a byte.
-fn frame(digits: &[u8]) -> Request
+fn frame(digits: &[u8]) -> Option<Request>
     ensures { result ≡ asked_frame (fields digits.now) }
 {
     if digits.len() != 16 {
-        return nothing();
+        return None;
     }
     let mut bytes = [0u8; 8];
-    let mut k: usize = 0;
-    while k < 8 {
-        let high = nibble(digits[2 * k]);
-        if high > 15 {
-            return nothing();
-        }
-        let low = nibble(digits[2 * k + 1]);
-        if low > 15 {
-            return nothing();
-        }
+    for k in 0..8 {
+        let high = nibble(digits[2 * k])?;
+        let low = nibble(digits[2 * k + 1])?;
         bytes[k] = 16 * high + low;
-        k += 1;
     }
-    Request {
-        verb: Verb::Frame,
-        frame: bytes,
-        samples: [0; 4],
-    }
+    Some(Request::Frame(bytes))
 }
 
-// A line that begins with "T": each field is past the space at which the one before it ended.
-fn tick(line: &[u8]) -> Request
-    ensures { result ≡ asked_tick (following (drop 1 line.now)) }
+// What follows "T ": four fields, each a decimal.
+fn tick(rest: &[u8]) -> Option<Request>
+    ensures { result ≡ asked_tick (fields rest.now) }
 {
     let mut samples = [0i16; 4];
-    let mut space: usize = 1;
-    let mut k: usize = 0;
-    while k < 4 {
-        let Field::Is(v, end) = read_field(line, space) else {
-            return nothing();
+    let mut count: usize = 0;
+    for field in rest.split(|b| *b == b' ') {
+        if count == 4 {
+            return None;
+        }
+        let Some(v) = read_number(field) else {
+            return None;
         };
-        samples[k] = v;
-        space = end;
-        k += 1;
+        samples[count] = v;
+        count += 1;
     }
-    if space < line.len() {
-        return nothing();
+    if count < 4 {
+        return None;
     }
-    Request {
-        verb: Verb::Tick,
-        frame: [0; 8],
-        samples,
-    }
+    Some(Request::Tick(samples))
 }
 
-pub fn read(line: &[u8]) -> Request
+pub fn read(line: &[u8]) -> Option<Request>
     ensures { result ≡ asked line.now }
 {
     if line.len() < 2 {
-        return nothing();
+        return None;
     }
     if line[1] != b' ' {
-        return nothing();
+        return None;
     }
     if line[0] == b'S' {
         return frame(&line[2..]);
     }
     if line[0] == b'T' {
-        return tick(line);
+        return tick(&line[2..]);
     }
-    nothing()
+    None
 }

@@ -21,8 +21,7 @@ use Rattle.image.specs.Loaded.{loaded}
 use Rattle.image.specs.Reading.{reading, configuration_in}
 use Rattle.sdo.specs.Answers.{answer}
 use Rattle.sdo.specs.Served.{after}
-use Rattle.sdo.specs.declared.types.Answer.{Answer}
-use Rattle.sdo.specs.declared.types.Answer.TheVariants.{Silent, Aborted, Value, Written}
+use Rattle.sdo.specs.declared.types.Done.TheVariants.{Value, Written}
 use Rattle.controller.proofs.Recalled.{is_ticked}
 use Rattle.controller.proofs.TickLaws.{length_kept}
 use Rattle.controller.specs.Commands.{rule_for}
@@ -35,6 +34,8 @@ use Rattle.promises.specs.Running.{Event, frame, tick, load, happens, run}
 use Rattle.promises.proofs.Forgetting.{size_stored}
 use Rattle.promises.proofs.Running.{sizes, all_words, size_by_load, always_sound, size_at_start}
 use Rattle.promises.proofs.Ticking.{rising, limits_rise}
+use Rattle.sdo.specs.Frames.{Answer}
+use Rattle.std.specs.Prelude.{Some, None, Ok, Err}
 
 pub told_as_it_was : ToldAsItWas
 told_as_it_was events b samples k h =
@@ -50,10 +51,10 @@ record Tells (unit : List ℕ) (since : Bool) : Type 0 where
 
 by_answer : (unit : List ℕ) (since : Bool) (a : Answer) → Tells unit since → Tells (after unit a) (since_answer a since)
 unfolding after since_answer no_tick
-by_answer unit since Silent t = t
-by_answer unit since (Aborted x) t = t
-by_answer unit since (Value w n) t = t
-by_answer unit since (Written slot word) t =
+by_answer unit since None t = t
+by_answer unit since (Some (Err x)) t = t
+by_answer unit since (Some (Ok (Value w n))) t = t
+by_answer unit since (Some (Ok (Written slot word))) t =
     record { long = size_stored unit slot word ∙ t.long; word = eq-eqb _ 0 (forgotten (set unit slot word) (length-set unit slot word ∙ t.long)) }
 
 -- the mark stands behind the configuration, where a load takes what is left of the unit

@@ -15,8 +15,7 @@ use Rattle.dictionary.proofs.Unticked.{words_stay, length_stays}
 use Rattle.dictionary.proofs.naming.NameLaws.{counted}
 use Rattle.sdo.specs.Answers.{unclear, answer}
 use Rattle.sdo.specs.Served.{after}
-use Rattle.sdo.specs.declared.types.Answer.{Answer}
-use Rattle.sdo.specs.declared.types.Answer.TheVariants.{Silent, Aborted, Value, Written}
+use Rattle.sdo.specs.declared.types.Done.TheVariants.{Value, Written}
 use Rattle.unit.specs.Entry.{entry}
 use Rattle.unit.proofs.Slots.{error_slots}
 use Rattle.input.specs.Errors.{errors}
@@ -25,6 +24,8 @@ use Rattle.controller.proofs.TickLaws.{register_unwritten, register_forgotten}
 use Rattle.promises.specs.Errors.{clears}
 use Rattle.promises.proofs.Accepted.{Accepted, accepted}
 use Rattle.promises.proofs.Forgetting.{size_stored}
+use Rattle.sdo.specs.Frames.{Answer}
+use Rattle.std.specs.Prelude.{Some, None, Ok, Err}
 
 abbrev Emptied : List ℕ → Type 0
 Emptied unit = (errors unit ≡ []) × (entry unit 0x1003 0 ≡ 0)
@@ -75,10 +76,10 @@ module _ (unit : List ℕ) where
 pub by_frame : (unit f : List ℕ) (room : ℕ) → length unit ≡ unit_size → (a : Answer) → answer unit f room ≡ a
     → (clears a ≡ true → Emptied (after unit a)) × (clears a ≡ false → Unchanged unit (after unit a))
 unfolding after clears
-by_frame unit f room size Silent e = (λ t. absurd (true≢false (sym t)), λ t. (refl, refl))
-by_frame unit f room size (Aborted x) e = (λ t. absurd (true≢false (sym t)), λ t. (refl, refl))
-by_frame unit f room size (Value w n) e = (λ t. absurd (true≢false (sym t)), λ t. (refl, refl))
-by_frame unit f room size (Written slot word) e =
+by_frame unit f room size None e = (λ t. absurd (true≢false (sym t)), λ t. (refl, refl))
+by_frame unit f room size (Some (Err x)) e = (λ t. absurd (true≢false (sym t)), λ t. (refl, refl))
+by_frame unit f room size (Some (Ok (Value w n))) e = (λ t. absurd (true≢false (sym t)), λ t. (refl, refl))
+by_frame unit f room size (Some (Ok (Written slot word))) e =
     let a = accepted unit f room slot word e in
     let s = still (set unit slot word) in (
       λ t. let done = emptied unit size f slot word a (eqb-true slot (slot_of 0x1003 0) t) in (s.0 ∙ done.0, s.1 ∙ done.1),
@@ -88,15 +89,15 @@ by_frame unit f room size (Written slot word) e =
 -- the number of words stays, and 1001h
 pub frame_size : (unit : List ℕ) (a : Answer) → length (after unit a) ≡ length unit
 unfolding after
-frame_size unit Silent = refl
-frame_size unit (Aborted x) = refl
-frame_size unit (Value w n) = refl
-frame_size unit (Written slot word) = size_stored unit slot word
+frame_size unit None = refl
+frame_size unit (Some (Err x)) = refl
+frame_size unit (Some (Ok (Value w n))) = refl
+frame_size unit (Some (Ok (Written slot word))) = size_stored unit slot word
 
 pub register_left : (unit f : List ℕ) (room : ℕ) (a : Answer) → answer unit f room ≡ a → entry (after unit a) 0x1001 0 ≡ entry unit 0x1001 0
 unfolding after
-register_left unit f room Silent e = refl
-register_left unit f room (Aborted x) e = refl
-register_left unit f room (Value w n) e = refl
-register_left unit f room (Written slot word) e =
+register_left unit f room None e = refl
+register_left unit f room (Some (Err x)) e = refl
+register_left unit f room (Some (Ok (Value w n))) e = refl
+register_left unit f room (Some (Ok (Written slot word))) e =
     register_forgotten (set unit slot word) ∙ register_unwritten unit slot word (accepted unit f room slot word e).below

@@ -14,7 +14,7 @@ use Rattle.dictionary.specs.Names.{slot_of, sought, configured, writable, words}
 use Rattle.dictionary.specs.Unit.{signals_at, runs_at, flags_at, before_at, unit_size}
 use Rattle.dictionary.proofs.Unticked.{signals_behind, signals_before}
 use Rattle.dictionary.specs.Rows.{width}
-use Rattle.std.specs.Prelude.{Result, Ok, Err}
+use Rattle.std.specs.Prelude.{Result, Ok, Err, Option, Some}
 use Rattle.dictionary.specs.declared.types.Named.{Named}
 use Rattle.dictionary.specs.declared.types.Named.TheVariants.{At}
 use Rattle.dictionary.specs.declared.types.Missing.{Missing}
@@ -29,11 +29,11 @@ use Rattle.sdo.specs.Answers.{size_of, reading, stored, unclear, refused, length
 use Rattle.sdo.specs.Frames.{command_of, data_in}
 use Rattle.sdo.specs.Served.{after}
 use Rattle.sdo.specs.declared.types.Abort.TheVariants as abort
-use Rattle.sdo.specs.declared.types.Answer.TheVariants.{Aborted, Value, Written}
+use Rattle.sdo.specs.declared.types.Done.TheVariants.{Value, Written}
 use Rattle.sdo.specs.declared.types.Command.{Command}
-use Rattle.sdo.specs.declared.types.Command.TheVariants.{Read, Write, Other}
-use Rattle.sdo.specs.declared.types.Size.{Size}
-use Rattle.sdo.proofs.AnswerLaws.{spoken, read_only, in_full}
+use Rattle.sdo.specs.declared.types.Command.TheVariants.{Read, Write}
+use Rattle.sdo.specs.declared.types.Abort.{Abort}
+use Rattle.sdo.proofs.AnswerLaws.{spoken, an_answer, read_only, in_full}
 use Rattle.sdo.proofs.Clearing.{any_good}
 use Rattle.unit.specs.Entry.{entry}
 use Rattle.unit.proofs.Slots.{error_slots}
@@ -108,22 +108,25 @@ module _ (unit f : List ℕ) (room sub : ℕ) (size : length unit ≡ unit_size)
       sym (get_or-take (get_or unit (slot_of 0x1003 0) 0) (take 8 l) k 0 (omega (arith, kept_is)) ∙ get_or-take 8 l k 0 (omega arith) ∙ get_or-drop (slot_of 0x1003 1) unit k 0)
 
   -- a command that is taken is no abort frame
-  answered : (c : Command) → command_of (get_or f 0 0) ≡ c → (c ≡ Other → ⊥) → answer unit f room ≡ obeyed unit f c
+  no_abort : (c : Command) → command_of 0x80 ≡ Ok c → ⊥
   unfolding command_of first
-  answered c e taken =
-      sym (spoken unit f room n.eight n.roomy (λ a. taken (sym e ∙ ap command_of a))) ∙ ap (obeyed unit f) e
+  no_abort c e = let z : ◌≡◌ {A = ℕ} 0 1 = cc in omega arith
 
-  read_is : command_of (get_or f 0 0) ≡ Read → (g : Result Named Missing) → g ≡ sought unit 0x1003 sub → answer unit f room ≡ reading unit g
-  unfolding obeyed
-  read_is c g e = answered Read c (λ q. let z : ◌≡◌ {A = ℕ} 0 1 = cc in omega arith) ∙ rw (n.list, n.place, ← e)
+  answered : (c : Command) → command_of (get_or f 0 0) ≡ Ok c → answer unit f room ≡ Some (obeyed unit f (Ok c))
+  answered c e =
+      sym (an_answer unit f room (spoken f room n.eight n.roomy (λ a. no_abort c (sym (ap command_of a) ∙ e))) (obeyed unit f (command_of (get_or f 0 0))) refl) ∙ ap (λ (k : Result Command Abort). Some (obeyed unit f k)) e
 
-  write_is : (s : Size) → command_of (get_or f 0 0) ≡ Write s → (g : Result Named Missing) → g ≡ sought unit 0x1003 sub → answer unit f room ≡ writing unit f s g
+  read_is : command_of (get_or f 0 0) ≡ Ok Read → (g : Result Named Missing) → g ≡ sought unit 0x1003 sub → answer unit f room ≡ Some (reading unit g)
   unfolding obeyed
-  write_is s c g e = answered (Write s) c (λ q. let z : ◌≡◌ {A = ℕ} 0 1 = cc in omega arith) ∙ rw (n.list, n.place, ← e)
+  read_is c g e = answered Read c ∙ rw (n.list, n.place, ← e)
+
+  write_is : (s : Option ℕ) → command_of (get_or f 0 0) ≡ Ok (Write s) → (g : Result Named Missing) → g ≡ sought unit 0x1003 sub → answer unit f room ≡ Some (writing unit f s g)
+  unfolding obeyed
+  write_is s c g e = answered (Write s) c ∙ rw (n.list, n.place, ← e)
 
   -- a byte for sub 0
-  one_byte : (s : Size) → length_of s 1 ≡ 1
-      → first (unclear (slot_of 0x1003 0) (data_in 1 f)) (Aborted abort.NotClear) (Written (slot_of 0x1003 0) (data_in 1 f)) ≡ writing unit f s (Ok (At (slot_of 0x1003 0)))
+  one_byte : (s : Option ℕ) → length_of s 1 ≡ 1
+      → first (unclear (slot_of 0x1003 0) (data_in 1 f)) (Err abort.NotClear) (Ok (Written (slot_of 0x1003 0) (data_in 1 f))) ≡ writing unit f s (Ok (At (slot_of 0x1003 0)))
   unfolding stored
   one_byte s l =
       rw (any_good unit (data_in 1 f)) at
@@ -144,11 +147,11 @@ module _ (unit f : List ℕ) (room sub : ℕ) (size : length unit ≡ unit_size)
             ∙ rw (word_is low high, agree 8 (λ k. size_of (slot_of 0x1003 1 + k)) (λ k. 4) 0 entry_sizes (sub - 1) (omega arith));
         not_read = λ c h. read_is c _ (none_there h);
         not_written = λ s c h. write_is s c _ (none_there h);
-        only_read = λ s c low high. write_is s c _ (one_there low high) ∙ sym (read_only unit f s _ (omega (arith, error_slots, counted)));
+        only_read = λ s c low high. write_is s c _ (one_there low high) ∙ ap Some (sym (read_only unit f s _ (omega (arith, error_slots, counted))));
         cleared = λ s c l z e.
-            write_is s c _ (number_there z) ∙ sym (one_byte s l) ∙ rw (unclear_is true (eq-eqb (data_in 1 f) 0 e), e);
+            write_is s c _ (number_there z) ∙ ap Some (sym (one_byte s l)) ∙ rw (unclear_is true (eq-eqb (data_in 1 f) 0 e), e);
         not_cleared = λ s c l z ne.
-            write_is s c _ (number_there z) ∙ sym (one_byte s l) ∙ rw (unclear_is false (ne_eqb (data_in 1 f) 0 ne));
+            write_is s c _ (number_there z) ∙ ap Some (sym (one_byte s l)) ∙ rw (unclear_is false (ne_eqb (data_in 1 f) 0 ne));
       }
 
 pub read_exactly : ReadExactly
@@ -219,4 +222,4 @@ what_went_wrong_first events some few f room n c =
     let fit = fit_on events at_start fit_at_start in
     let all : errors unit ≡ flagged = last_eight events ∙ take_all 8 flagged few in
     (told unit f room (length flagged) fit.size (agreed unit fit) n).kept c some (omega (arith, ap length all))
-    ∙ ap (λ (l : List ℕ). Value (get_or l (length flagged - 1) 0) 4) all
+    ∙ ap (λ (l : List ℕ). Some (Ok (Value (get_or l (length flagged - 1) 0) 4))) all

@@ -12,7 +12,7 @@ use Rattle.dictionary.specs.Names.{Stretch, stretches, with_index, largest, at_s
 use Rattle.dictionary.specs.Objects.{meant}
 use Rattle.dictionary.specs.declared.objects.Object.TheVariants.{Errors}
 use Rattle.dictionary.proofs.naming.NameLaws.{by_object}
-use Rattle.std.specs.Prelude.{Result, Ok, Err}
+use Rattle.std.specs.Prelude.{Result, Ok, Err, Option, Some, None}
 use Rattle.std.specs.Result.{result_and}
 use Rattle.dictionary.specs.declared.types.Named.{Named}
 use Rattle.dictionary.specs.declared.types.Named.TheVariants.{Count, At}
@@ -23,12 +23,9 @@ use Rattle.entries.specs.Judge.{within, in_range, in_order, judged}
 use Rattle.entries.specs.declared.types.Fault.TheVariants as fault
 use Rattle.roles.specs.Values.{range_of}
 use Rattle.sdo.specs.Answers.{size_of, reading, stored, offered, refused, length_of, writing, obeyed, silent, answer}
-use Rattle.sdo.specs.Frames.{command_of, index_in, sub_in, data_in, code}
+use Rattle.sdo.specs.Frames.{Answer, command_of, index_in, sub_in, data_in, code}
 use Rattle.sdo.specs.declared.types.Abort.TheVariants as abort
-use Rattle.sdo.specs.declared.types.Answer.{Answer}
-use Rattle.sdo.specs.declared.types.Answer.TheVariants.{Silent, Aborted, Written}
-use Rattle.sdo.specs.declared.types.Size.{Size}
-use Rattle.sdo.specs.declared.types.Size.TheVariants.{Told, Untold}
+use Rattle.sdo.specs.declared.types.Done.TheVariants.{Written}
 use Rattle.dictionary.specs.Rows.{width}
 use Rattle.dictionary.specs.declared.types.Kind.{Kind}
 use Rattle.dictionary.specs.declared.types.Kind.TheVariants.{Unsigned8, Integer16, Unsigned16, Real32, Unsigned32}
@@ -38,7 +35,7 @@ use Rattle.promises.specs.FrameRefusals.{first_match, bytes_written, own_bytes, 
 
 judged_rows : (infinite above under up down : Bool) (slot word : ℕ)
     → stored slot word (result_and (first infinite (Err fault.NotFinite) (first above (Err fault.Above) (first under (Err fault.Below) (Ok (tt {0}))))) (first up (Err fault.ChainUp) (first down (Err fault.ChainDown) (Ok tt))))
-    ≡ first infinite (Aborted abort.NotFinite) (first above (Aborted abort.Above) (first under (Aborted abort.Below) (first up (Aborted abort.ChainUp) (first down (Aborted abort.ChainDown) (Written slot word)))))
+    ≡ first infinite (Err abort.NotFinite) (first above (Err abort.Above) (first under (Err abort.Below) (first up (Err abort.ChainUp) (first down (Err abort.ChainDown) (Ok (Written slot word))))))
 unfolding first stored
 judged_rows true above under up down slot word = refl
 judged_rows false true under up down slot word = refl
@@ -49,7 +46,7 @@ judged_rows false false false false false slot word = refl
 
 module _ (unit : List ℕ) (word : ℕ) where
   -- a read meets rows 3 and 4 alone
-  read_rows : (name : Result Named Missing) (above : Bool) → (above ≡ true → unknown_index name ≡ false) → reading unit (first above (Err missing.Sub) name) ≡ first_match (name_rows unit name above 0 word) (reading unit name)
+  read_rows : (name : Result Named Missing) (above : Bool) → (above ≡ true → unknown_index name ≡ false) → Some (reading unit (first above (Err missing.Sub) name)) ≡ first_match (name_rows unit name above 0 word) (Some (reading unit name))
   unfolding reading name_rows unknown_index unknown_sub first_match first
   read_rows (Err missing.Index) true known = absurd (true≢false (known refl))
   read_rows (Err missing.Index) false known = refl
@@ -60,9 +57,14 @@ module _ (unit : List ℕ) (word : ℕ) where
   read_rows (Ok (At slot)) true known = refl
   read_rows (Ok (At slot)) false known = refl
 
+some_first : {A : Type 0} (b : Bool) (x y : A) → Some (first b x y) ≡ first b (Some x) (Some y)
+unfolding first
+some_first true x y = refl
+some_first false x y = refl
+
 -- a write of as many bytes as it tells, or as its entry has
-write_rows : (unit frame : List ℕ) (size : Size) (name : Result Named Missing) (above : Bool) → (above ≡ true → unknown_index name ≡ false) → let n = length_of size (own_bytes name) in
-    ltb 0 n ≡ true → writing unit frame size (first above (Err missing.Sub) name) ≡ first_match (name_rows unit name above n (data_in n frame)) (Written (slot_found name) (data_in n frame))
+write_rows : (unit frame : List ℕ) (size : Option ℕ) (name : Result Named Missing) (above : Bool) → (above ≡ true → unknown_index name ≡ false) → let n = length_of size (own_bytes name) in
+    ltb 0 n ≡ true → Some (writing unit frame size (first above (Err missing.Sub) name)) ≡ first_match (name_rows unit name above n (data_in n frame)) (Some (Ok (Written (slot_found name) (data_in n frame))))
 unfolding writing refused offered size_of judged in_range within in_order name_rows own_bytes unknown_index unknown_sub read_only first_match first
 write_rows unit frame size (Err missing.Index) true known h = absurd (true≢false (known refl))
 write_rows unit frame size (Err missing.Index) false known h = refl
@@ -71,7 +73,7 @@ write_rows unit frame size (Err missing.Sub) false known h = refl
 write_rows unit frame size (Ok (Count n)) true known h = refl
 write_rows unit frame size (Ok (Count n)) false known h = rw h
 write_rows unit frame size (Ok (At slot)) true known h = refl
-write_rows unit frame size (Ok (At slot)) false known h = rw (h, judged_rows)
+write_rows unit frame size (Ok (At slot)) false known h = rw (h, judged_rows) (simp some_first)
 
 -- every type has some bytes
 some_bytes : (kind : Kind) → ltb 0 (width kind) ≡ true
@@ -128,27 +130,27 @@ module _ (unit frame : List ℕ) where
   from_row_2 : ℕ → Answer
   from_row_2 byte =
       let size = bytes_written (own_bytes name) byte in
-      first (not (eqb byte 0x40 || ltb 0 size)) (Aborted abort.Command)
-      (first_match (name_rows unit name above size (data_in size frame)) (first (ltb 0 size) (Written (slot_found name) (data_in size frame)) (reading unit name)))
+      first (not (eqb byte 0x40 || ltb 0 size)) (Some (Err abort.Command))
+      (first_match (name_rows unit name above size (data_in size frame)) (first (ltb 0 size) (Some (Ok (Written (slot_found name) (data_in size frame)))) (Some (reading unit name))))
 
-  commanded : (byte : ℕ) → obeyed unit frame (command_of byte) ≡ from_row_2 byte
+  commanded : (byte : ℕ) → Some (obeyed unit frame (command_of byte)) ≡ from_row_2 byte
   unfolding obeyed sought command_of bytes_written chosen first name above from_row_2 length_of
   commanded byte = go (eqb byte 0x40) (eqb byte 0x23) (eqb byte 0x27) (eqb byte 0x2B) (eqb byte 0x2F) (eqb byte 0x22) refl refl refl refl refl refl
     where
       go : (read four three two one own : Bool)
           → eqb byte 0x40 ≡ read → eqb byte 0x23 ≡ four → eqb byte 0x27 ≡ three → eqb byte 0x2B ≡ two → eqb byte 0x2F ≡ one → eqb byte 0x22 ≡ own
-          → obeyed unit frame (command_of byte) ≡ from_row_2 byte
+          → Some (obeyed unit frame (command_of byte)) ≡ from_row_2 byte
       go true four three two one own r a b c d e = rw (eqb-true byte 0x40 r) (read_rows unit (data_in 0 frame) name above known)
-      go false true three two one own r a b c d e = rw (eqb-true byte 0x23 a) (write_rows unit frame (Told 4) name above known refl)
-      go false false true two one own r a b c d e = rw (eqb-true byte 0x27 b) (write_rows unit frame (Told 3) name above known refl)
-      go false false false true one own r a b c d e = rw (eqb-true byte 0x2B c) (write_rows unit frame (Told 2) name above known refl)
-      go false false false false true own r a b c d e = rw (eqb-true byte 0x2F d) (write_rows unit frame (Told 1) name above known refl)
-      go false false false false false true r a b c d e = rw (eqb-true byte 0x22 e, own_some name) (write_rows unit frame Untold name above known (own_some name))
+      go false true three two one own r a b c d e = rw (eqb-true byte 0x23 a) (write_rows unit frame (Some 4) name above known refl)
+      go false false true two one own r a b c d e = rw (eqb-true byte 0x27 b) (write_rows unit frame (Some 3) name above known refl)
+      go false false false true one own r a b c d e = rw (eqb-true byte 0x2B c) (write_rows unit frame (Some 2) name above known refl)
+      go false false false false true own r a b c d e = rw (eqb-true byte 0x2F d) (write_rows unit frame (Some 1) name above known refl)
+      go false false false false false true r a b c d e = rw (eqb-true byte 0x22 e, own_some name) (write_rows unit frame None name above known (own_some name))
       go false false false false false false r a b c d e = rw (r, a, b, c, d, e)
 
 pub frames_meet_theirs : FramesMeetTheirs
 unfolding answer silent frame_rows first_match good name above from_row_2
-frames_meet_theirs unit frame room = ap (first (silent frame room) Silent) (commanded unit frame (get_or frame 0 0))
+frames_meet_theirs unit frame room = ap (first (silent frame room) None) (commanded unit frame (get_or frame 0 0))
 
 pub codes_as_listed : CodesAsListed
 unfolding frame_rows name_rows code_sent code

@@ -15,6 +15,7 @@ use Rattle.numbers.specs.Choice.{every}
 use Rattle.dictionary.specs.Names.{configured}
 use Rattle.dictionary.proofs.naming.NameLaws as Names
 use Rattle.entries.specs.Judge.{judged}
+use Rattle.std.specs.Prelude.{Some}
 use Rattle.sdo.specs.Answers.{size_of, stored, answer}
 use Rattle.records.specs.Layout.{listed, size, entry, record_in}
 use Rattle.records.specs.Walk.{size_in, data_in}
@@ -72,11 +73,11 @@ module _ (image : List ℕ) (g : reading image ≡ Good) (slot : ℕ) (h : slot 
   word_is = sym (value_at listed (drop 4 image) slot in_list ∙ ap (data_in (size (entry listed slot))) (Standing.at_place image g slot small))
 
   pub answered : (words : List ℕ) (room : ℕ) → 8 ≤ room
-      → answer words (frame_at image slot) room ≡ stored slot (get_or (configuration_in image) slot 0) (judged words slot (get_or (configuration_in image) slot 0))
+      → answer words (frame_at image slot) room ≡ Some (stored slot (get_or (configuration_in image) slot 0) (judged words slot (get_or (configuration_in image) slot 0)))
   unfolding frame_at body
   answered words room k =
       Record.answered (entry listed slot) body right slot (named slot h) h (own_size slot h) words room k
-      ∙ ap (λ (w : ℕ). stored slot w (judged words slot w)) word_is
+      ∙ ap (λ (w : ℕ). Some (stored slot w (judged words slot w))) word_is
 
   pub frame_bytes : Bytes image → Bytes (frame_at image slot)
   unfolding frame_at body

@@ -25,12 +25,11 @@ use Rattle.dictionary.proofs.Unticked.{signals_behind, signals_before, words_sta
 use Rattle.roles.specs.Values.{range_of, starts, at_start}
 use Rattle.entries.specs.Judge.{number_of, finite, within, in_range}
 use Rattle.entries.specs.Valid.{Valid}
-use Rattle.std.specs.Prelude.{Result, Ok, Err, ⊤}
+use Rattle.std.specs.Prelude.{Result, Ok, Err, ⊤, Some, None}
 use Rattle.entries.specs.declared.types.Fault.{Fault}
 use Rattle.entries.specs.declared.types.Fault.TheVariants.{Above, Below}
 use Rattle.sdo.specs.Answers.{answer}
-use Rattle.sdo.specs.declared.types.Answer.{Answer}
-use Rattle.sdo.specs.declared.types.Answer.TheVariants.{Silent, Aborted, Value, Written}
+use Rattle.sdo.specs.declared.types.Done.TheVariants.{Value, Written}
 use Rattle.sdo.specs.Served.{after}
 use Rattle.image.specs.Loaded.{loaded}
 use Rattle.image.specs.Reading.{reading}
@@ -46,6 +45,7 @@ use Rattle.promises.specs.Running.{Event, frame, tick, load, happens, run, MadeO
 use Rattle.promises.proofs.Accepted as Accepted
 use Rattle.promises.proofs.Running.{sound_on, sizes, low_by_load, always_sound}
 use Rattle.promises.proofs.Ticking.{each_tick}
+use Rattle.sdo.specs.Frames.{Answer}
 
 abbrev NotBelow : List ℕ → Type 0
 NotBelow unit = (k : ℕ) → k < 4 → pos 0 ≤ℤ whole unit 0x7330 (k + 1)
@@ -129,10 +129,10 @@ module _ (unit : List ℕ) (n : NotBelow unit) (k : ℕ) (h : k < 4) where
   -- no frame writes a command
   by_frame : (f : List ℕ) (room : ℕ) (a : Answer) → answer unit f room ≡ a → pos 0 ≤ℤ whole (after unit a) 0x7330 (k + 1)
   unfolding after whole entry
-  by_frame f room Silent e = n k h
-  by_frame f room (Aborted a) e = n k h
-  by_frame f room (Value w m) e = n k h
-  by_frame f room (Written slot word) e =
+  by_frame f room None e = n k h
+  by_frame f room (Some (Err a)) e = n k h
+  by_frame f room (Some (Ok (Value w m))) e = n k h
+  by_frame f room (Some (Ok (Written slot word))) e =
       let below = (Accepted.accepted unit f room slot word e).below in
       rw (words_stay (set unit slot word) (slot_of 0x7330 (k + 1)) (in_words k h), get_or-set_other unit slot (slot_of 0x7330 (k + 1)) word 0 (λ q. omega (arith, below, unwritten k h))) (n k h)
 

@@ -18,8 +18,7 @@ use Rattle.roles.specs.Values.{starts, at_start}
 use Rattle.signals.specs.Signal as signals
 use Rattle.sdo.specs.Answers.{answer}
 use Rattle.sdo.specs.Served.{after}
-use Rattle.sdo.specs.declared.types.Answer.{Answer}
-use Rattle.sdo.specs.declared.types.Answer.TheVariants.{Silent, Aborted, Value, Written}
+use Rattle.sdo.specs.declared.types.Done.TheVariants.{Value, Written}
 use Rattle.image.specs.Loaded.{loaded}
 use Rattle.image.specs.Reading.{reading}
 use Rattle.output.specs.Lasting.{Course, Keeps, Ahead, Goes, until, Due}
@@ -39,14 +38,16 @@ use Rattle.promises.specs.Running.{frame, load, happens, Sound}
 use Rattle.promises.proofs.Accepted.{accepted}
 use Rattle.promises.proofs.Running.{sizes, low_by_load, sound_after_frame, sound_after_tick, sound_after_load}
 use Rattle.promises.proofs.Ticking.{limits_rise, each_tick}
+use Rattle.sdo.specs.Frames.{Answer}
+use Rattle.std.specs.Prelude.{Some, None, Ok, Err}
 
 -- a frame writes at most one word, and none of an output's motion
 kept_by_frame : (i : ℕ) → i < 4 → (unit f : List ℕ) (room : ℕ) (a : Answer) → answer unit f room ≡ a → motion (after unit a) (i + 1) ≡ motion unit (i + 1)
 unfolding after
-kept_by_frame i h unit f room Silent e = refl
-kept_by_frame i h unit f room (Aborted a) e = refl
-kept_by_frame i h unit f room (Value w n) e = refl
-kept_by_frame i h unit f room (Written slot word) e =
+kept_by_frame i h unit f room None e = refl
+kept_by_frame i h unit f room (Some (Err a)) e = refl
+kept_by_frame i h unit f room (Some (Ok (Value w n))) e = refl
+kept_by_frame i h unit f room (Some (Ok (Written slot word))) e =
     motion_forgotten (set unit slot word) i h ∙ motion_unwritten unit slot word i (accepted unit f room slot word e).below h
 
 frames_keep : (i : ℕ) → i < 4 → (unit f : List ℕ) (room : ℕ) → motion (happens (frame f room) unit) (i + 1) ≡ motion unit (i + 1)

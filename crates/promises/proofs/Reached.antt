@@ -8,7 +8,7 @@ use lib.ListN.{length, get_or, set}
 use Rattle.octets.specs.Little.{Bytes}
 use Rattle.dictionary.specs.Unit.{unit_size}
 use Rattle.entries.specs.Valid.{Valid}
-use Rattle.sdo.specs.declared.types.Answer.TheVariants.{Written}
+use Rattle.sdo.specs.declared.types.Done.TheVariants.{Written}
 use Rattle.sdo.specs.Served.{after}
 use Rattle.image.specs.Reading.{configuration_in}
 use Rattle.lists.specs.Changes.{list_of}
@@ -20,6 +20,7 @@ use Rattle.promises.proofs.Proper.{good}
 use Rattle.promises.proofs.Forgetting.{agrees, valid_forgotten, size_stored}
 use Rattle.promises.proofs.Underway.{Going, next, begun, ended, front_is}
 use Rattle.promises.proofs.Writing.{still_valid}
+use Rattle.std.specs.Prelude.{Some, Ok}
 
 -- ---- accepted writes keep a configuration that may stand
 
@@ -48,7 +49,7 @@ module _ (current wanted : List ℕ) (first : Proper current) (second : Proper w
   arriving (f ∷ frames) unit g =
       let n = next current wanted first second g in
       let word = get_or (configuration_in wanted) n.slot 0 in
-      let more = arriving frames (after unit (Written n.slot word)) n.then in
+      let more = arriving frames (after unit (Some (Ok (Written n.slot word)))) n.then in
       record {
         unit' = more.unit';
         accepts = Accepts.next n.slot word (subst Bytes n.is (frame_bytes wanted (good second) n.slot n.inside second.complete.of_bytes)) (n.answers 8 (omega arith)) more.accepts;

@@ -1,6 +1,6 @@
 -- A read after an accepted write: the reply has the bytes that the frame had.
 -- Assumes nothing.
-use mathlib.Core.Path.{◌≡◌, sym, ap, ◌∙◌}
+use mathlib.Core.Path.{◌≡◌, refl, sym, ap, ◌∙◌}
 use mathlib.Core.List.{List, [], ◌∷◌, ◌++◌}
 use Prim.Native.Nat.{ℕ, ◌-◌, ◌≤◌}
 use native.Mathlib.Omega.{arith}
@@ -9,7 +9,7 @@ use lib.Seq.{length-take-le}
 use Rattle.numbers.specs.Choice.{first}
 use Rattle.dictionary.specs.Names.{find}
 use Rattle.dictionary.proofs.naming.Sought.{still_sought}
-use Rattle.std.specs.Prelude.{Ok}
+use Rattle.std.specs.Prelude.{Ok, Some, Result}
 use Rattle.dictionary.specs.declared.types.Named.TheVariants.{At}
 use Rattle.dictionary.specs.Unit.{unit_size, unticked}
 use Rattle.dictionary.proofs.naming.NameLaws.{counted}
@@ -18,10 +18,14 @@ use Rattle.roles.specs.Values.{range_of}
 use Rattle.sdo.specs.Answers.{size_of, reading, obeyed, answer}
 use Rattle.octets.specs.Little.{little, bytes, Bytes}
 use Rattle.sdo.specs.Frames.{index_in, sub_in, name_in, data_in, command_of, read_command, cut, reply, reply_to}
-use Rattle.sdo.specs.declared.types.Answer.TheVariants.{Value}
+use Rattle.sdo.specs.declared.types.Done.TheVariants.{Value}
 use Rattle.sdo.specs.declared.types.Command.TheVariants.{Read}
 use Rattle.roles.proofs.widths.WidthLaws.{at_most_four}
-use Rattle.sdo.proofs.AnswerLaws.{spoken}
+use Rattle.dictionary.specs.declared.types.Named.{Named}
+use Rattle.dictionary.specs.declared.types.Missing.{Missing}
+use Rattle.sdo.specs.declared.types.Abort.{Abort}
+use Rattle.sdo.specs.declared.types.Command.{Command}
+use Rattle.sdo.proofs.AnswerLaws.{spoken, an_answer}
 use Rattle.promises.proofs.Accepted.{Accepted}
 use Rattle.octets.proofs.little.ByteLaws.{bytes_from, bytes_to, given_back}
 use Rattle.promises.proofs.ByteLaws.{uncut}
@@ -45,18 +49,18 @@ module _ (words frame : List ℕ) (slot word : ℕ) (a : Accepted words frame sl
     unfolding index_in sub_in name_in
     same_name = ap (λ (m : List ℕ). find (little (get_or m 0 0 ∷ get_or m 1 0 ∷ [])) (get_or m 2 0)) n ∙ a.found
 
-    a_read : command_of (get_or query 0 0) ≡ Read
+    a_read : command_of (get_or query 0 0) ≡ Ok Read
     unfolding command_of first
     a_read = rw c
 
-    value_back : answer (unticked (set words slot word)) query 8 ≡ Value word (size_of slot)
+    value_back : answer (unticked (set words slot word)) query 8 ≡ Some (Ok (Value word (size_of slot)))
     unfolding obeyed reading
     value_back =
         let after = unticked (set words slot word) in
-        sym (spoken after query 8 eight (omega arith) (λ e. omega arith))
-        ∙ ap (obeyed after query) a_read
-        ∙ ap (reading after) (still_sought after (index_in query) (sub_in query) slot same_name a.below)
-        ∙ ap (λ (w : ℕ). Value w (size_of slot)) (words_stay (set words slot word) slot (omega (arith, a.below, counted)) ∙ there words frame slot word a l)
+        sym (an_answer after query 8 (spoken query 8 eight (omega arith) (λ e. omega arith)) (obeyed after query (command_of (get_or query 0 0))) refl)
+        ∙ ap (λ (k : Result Command Abort). Some (obeyed after query k)) a_read
+        ∙ ap (λ (f : Result Named Missing). Some (reading after f)) (still_sought after (index_in query) (sub_in query) slot same_name a.below)
+        ∙ ap (λ (w : ℕ). Some (Ok (Value w (size_of slot)))) (words_stay (set words slot word) slot (omega (arith, a.below, counted)) ∙ there words frame slot word a l)
 
     pub reply_back : reply_to query (answer (unticked (set words slot word)) query 8) ≡ read_command (size_of slot) ∷ name_in frame ++ take (size_of slot) (drop 4 frame) ++ replicate (4 - size_of slot) 0
     unfolding reply_to reply name_in

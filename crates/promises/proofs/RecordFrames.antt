@@ -13,17 +13,16 @@ use Rattle.numbers.specs.Choice.{first}
 use Rattle.dictionary.specs.Names.{find, configured}
 use Rattle.dictionary.proofs.naming.Sought.{still_sought}
 use Rattle.dictionary.specs.Rows.{width}
-use Rattle.std.specs.Prelude.{Ok}
+use Rattle.std.specs.Prelude.{Ok, Some}
 use Rattle.dictionary.specs.declared.types.Named.TheVariants.{At}
 use Rattle.dictionary.specs.declared.types.Kind.{Kind}
 use Rattle.dictionary.specs.declared.types.Kind.TheVariants.{Unsigned8, Integer16, Unsigned16, Real32, Unsigned32}
 use Rattle.entries.specs.Judge.{judged}
-use Rattle.sdo.specs.Answers.{size_of, stored, length_of, answer}
+use Rattle.sdo.specs.Answers.{size_of, stored, length_of, obeyed, answer}
 use Rattle.sdo.specs.Frames.{index_in, sub_in, data_in, command_of}
 use Rattle.sdo.specs.declared.types.Command.TheVariants.{Write}
-use Rattle.sdo.specs.declared.types.Size.TheVariants.{Told}
 use Rattle.entries.proofs.Configuration.{can_be_written}
-use Rattle.sdo.proofs.AnswerLaws.{in_full, a_write, spoken}
+use Rattle.sdo.proofs.AnswerLaws.{in_full, a_write, spoken, an_answer}
 use Rattle.sdo.proofs.Clearing.{configured_through}
 use Rattle.records.specs.Layout.{Listed, size}
 use Rattle.records.specs.Walk as records
@@ -39,7 +38,7 @@ index_read rest h = sym (ap little (part rest 2 0 (omega arith)))
 
 -- ---- a type's command, by its kind
 
-pub commands : (kind : Kind) → command_of (write_command (width kind)) ≡ Write (Told (width kind))
+pub commands : (kind : Kind) → command_of (write_command (width kind)) ≡ Ok (Write (Some (width kind)))
 unfolding command_of write_command width first
 commands Unsigned8 = refl
 commands Integer16 = refl
@@ -118,16 +117,18 @@ module _ (e : Listed) (rest : List ℕ) (r : Right e rest) where
   command_is : get_or (frame_of_record rest) 0 0 ≡ write_command (size e)
   command_is = ap (λ (f : List ℕ). get_or f 0 0) parts
 
-  commanded : command_of (get_or (frame_of_record rest) 0 0) ≡ Write (Told (size e))
+  commanded : command_of (get_or (frame_of_record rest) 0 0) ≡ Ok (Write (Some (size e)))
   unfolding size
   commanded = ap command_of command_is ∙ commands e.range.kind
 
   -- it is judged as a write of the record's data to the slot that has its name
   pub answered : (slot : ℕ) → find e.index e.sub ≡ Ok (At slot) → slot < configured → size_of slot ≡ size e → (words : List ℕ) (room : ℕ) → 8 ≤ room
-      → answer words (frame_of_record rest) room ≡ stored slot (records.data_in (size e) rest) (judged words slot (records.data_in (size e) rest))
+      → answer words (frame_of_record rest) room ≡ Some (stored slot (records.data_in (size e) rest) (judged words slot (records.data_in (size e) rest)))
   unfolding size length_of
   answered slot found below own words room h =
-      sym (spoken words (frame_of_record rest) room eight h (λ a. (no_abort e.range.kind).1 (sym command_is ∙ a)))
-      ∙ sym (a_write words (frame_of_record rest) (Write (Told (size e))) (sym commanded) e.index e.sub (Ok (At slot)) (sym index_is) (sym sub_is) (sym (still_sought words e.index e.sub slot found (can_be_written slot below))) (Told (size e)) refl)
-      ∙ sym (in_full words (frame_of_record rest) (Told (size e)) slot (can_be_written slot below) (size e) (size e) (sym own) refl refl (records.data_in (size e) rest) (sym data_is))
-      ∙ configured_through slot (records.data_in (size e) rest) below _
+      let f = frame_of_record rest in
+      sym (an_answer words f room (spoken f room eight h (λ a. (no_abort e.range.kind).1 (sym command_is ∙ a))) (obeyed words f (command_of (get_or f 0 0))) refl)
+      ∙ ap Some
+      (sym (a_write words f e.index e.sub (sym index_is) (sym sub_is) (Write (Some (size e))) (sym commanded) (At slot) (sym (still_sought words e.index e.sub slot found (can_be_written slot below))) (Some (size e)) refl)
+      ∙ sym (in_full words f (Some (size e)) slot (can_be_written slot below) (size e) (size e) (sym own) refl refl (records.data_in (size e) rest) (sym data_is))
+      ∙ configured_through slot (records.data_in (size e) rest) below _)

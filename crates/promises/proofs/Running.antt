@@ -17,8 +17,7 @@ use Rattle.entries.specs.Valid.{Valid}
 use Rattle.roles.specs.Values.{starts, at_start}
 use Rattle.entries.proofs.Start.{valid_at_start}
 use Rattle.sdo.specs.Answers.{answer}
-use Rattle.sdo.specs.declared.types.Answer.{Answer}
-use Rattle.sdo.specs.declared.types.Answer.TheVariants.{Silent, Aborted, Value, Written}
+use Rattle.sdo.specs.declared.types.Done.TheVariants.{Value, Written}
 use Rattle.sdo.specs.Served.{after}
 use Rattle.records.specs.Layout.{listed}
 use Rattle.records.specs.declared.types.Outcome.{Outcome}
@@ -40,6 +39,8 @@ use Rattle.octets.specs.Little.{Bytes}
 use Rattle.promises.proofs.Accepted as Accepted
 use Rattle.promises.proofs.Forgetting.{agrees, size_stored}
 use Rattle.promises.proofs.Serving.{stays_valid}
+use Rattle.sdo.specs.Frames.{Answer}
+use Rattle.std.specs.Prelude.{Some, None, Ok, Err}
 
 -- ---- one event is what the definitions make of it
 
@@ -65,10 +66,10 @@ sizes = omega (arith, Names.counted, signals_behind, signals_before, mark_behind
 kept_by_frame : (unit f : List ℕ) (room : ℕ) (a : Answer) → answer unit f room ≡ a →
     (length (after unit a) ≡ length unit) × (any_flagged (after unit a) ≡ any_flagged unit) × (entry (after unit a) 0x1001 0 ≡ entry unit 0x1001 0)
 unfolding after
-kept_by_frame unit f room Silent e = (refl, refl, refl)
-kept_by_frame unit f room (Aborted a) e = (refl, refl, refl)
-kept_by_frame unit f room (Value w n) e = (refl, refl, refl)
-kept_by_frame unit f room (Written slot word) e =
+kept_by_frame unit f room None e = (refl, refl, refl)
+kept_by_frame unit f room (Some (Err a)) e = (refl, refl, refl)
+kept_by_frame unit f room (Some (Ok (Value w n))) e = (refl, refl, refl)
+kept_by_frame unit f room (Some (Ok (Written slot word))) e =
     let below = (Accepted.accepted unit f room slot word e).below in
     let stored = set unit slot word in (
       size_stored unit slot word,

@@ -20,8 +20,7 @@ use Rattle.dictionary.proofs.Unticked.{signals_behind, signals_before, mark_behi
 use Rattle.dictionary.proofs.naming.NameLaws as Names
 use Rattle.roles.specs.Values.{starts, at_start}
 use Rattle.sdo.specs.Answers.{answer}
-use Rattle.sdo.specs.declared.types.Answer.{Answer}
-use Rattle.sdo.specs.declared.types.Answer.TheVariants.{Silent, Aborted, Value, Written}
+use Rattle.sdo.specs.declared.types.Done.TheVariants.{Value, Written}
 use Rattle.sdo.specs.Served.{after}
 use Rattle.image.specs.Loaded.{loaded}
 use Rattle.image.specs.Reading.{reading}
@@ -39,6 +38,8 @@ use Rattle.promises.specs.SameDigits.{thousandths, SameDigits, RealsAsBefore, Gi
 use Rattle.promises.proofs.Accepted as Accepted
 use Rattle.promises.proofs.Forgetting.{size_stored}
 use Rattle.promises.proofs.Running as Running
+use Rattle.sdo.specs.Frames.{Answer}
+use Rattle.std.specs.Prelude.{Some, None, Ok, Err}
 
 -- ---- one order by two pairs of factors
 
@@ -182,10 +183,10 @@ module _ (u v : List ℕ) (same : (slot : ℕ) → writable ≤ slot → slot < 
 
 after_frame : (unit f : List ℕ) (room : ℕ) (a : Answer) → answer unit f room ≡ a → Selects unit → Selects (after unit a)
 unfolding after
-after_frame unit f room Silent e s = s
-after_frame unit f room (Aborted a) e s = s
-after_frame unit f room (Value w n) e s = s
-after_frame unit f room (Written slot word) e s =
+after_frame unit f room None e s = s
+after_frame unit f room (Some (Err a)) e s = s
+after_frame unit f room (Some (Ok (Value w n))) e s = s
+after_frame unit f room (Some (Ok (Written slot word))) e s =
     let under = (Accepted.accepted unit f room slot word e).below in
     still unit _ (λ k h l. forgets_only (set unit slot word) k (λ z. omega (arith, mark_behind)) ∙ (set_keeps unit slot word (λ z. omega arith)).word) (size_stored unit slot word) s
 

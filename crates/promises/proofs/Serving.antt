@@ -17,7 +17,7 @@ use Rattle.entries.proofs.Configuration.{can_be_written}
 use Rattle.dictionary.specs.Rows.{width}
 use Rattle.dictionary.specs.Unit.{unit_size}
 use Rattle.dictionary.specs.declared.types.Kind.{Kind}
-use Rattle.std.specs.Prelude.{Result, Ok, Err, ⊤}
+use Rattle.std.specs.Prelude.{Result, Ok, Err, ⊤, Some, None}
 use Rattle.dictionary.specs.declared.types.Named.{Named}
 use Rattle.dictionary.specs.declared.types.Named.TheVariants.{Count, At}
 use Rattle.dictionary.specs.declared.types.Missing.{Missing}
@@ -32,17 +32,17 @@ use Rattle.entries.specs.declared.types.Fault.TheVariants as fault
 use Rattle.roles.specs.Values.{range_of}
 use Rattle.entries.proofs.Start.{valid_at_start}
 use Rattle.sdo.specs.Answers.{size_of, reading, stored, unclear, offered, refused, length_of, writing, obeyed, silent, answer}
-use Rattle.sdo.specs.Frames.{index_in, sub_in, code, reply, name_in, data_in, command_of, reply_to}
+use Rattle.sdo.specs.Frames.{Answer, index_in, sub_in, code, reply, name_in, data_in, command_of, reply_to}
 use Rattle.sdo.specs.declared.types.Abort.TheVariants as abort
-use Rattle.sdo.specs.declared.types.Answer.{Answer}
-use Rattle.sdo.specs.declared.types.Answer.TheVariants.{Silent, Aborted, Value, Written}
+use Rattle.sdo.specs.declared.types.Done.TheVariants.{Value, Written}
 use Rattle.sdo.specs.declared.types.Command.{Command}
-use Rattle.sdo.specs.declared.types.Command.TheVariants.{Read, Write, Other}
-use Rattle.sdo.specs.declared.types.Size.TheVariants.{Untold}
+use Rattle.sdo.specs.declared.types.Command.TheVariants.{Read, Write}
 use Rattle.sdo.specs.Served.{after, filled}
 use Rattle.octets.specs.Little.{bytes, Bytes}
 use Rattle.sdo.proofs.AnswerLaws.{heard}
-use Rattle.sdo.proofs.ReplyLaws.{abort_speaks, value_speaks, written_speaks}
+use Rattle.std.proofs.lemmas.Option.{none-some}
+use Rattle.sdo.specs.declared.types.Abort.{Abort}
+use Rattle.sdo.specs.declared.types.Done.{Done}
 use Rattle.promises.specs.Serving.{Untouched, FirstEightOnly, ThatOneEntry, Determined, ReadsBack, SizeNotTold, NeverForItsLength, StaysValid, DecidedByConfiguration}
 use Rattle.promises.proofs.Accepted.{accepted}
 use Rattle.promises.proofs.Judged.{judged_same}
@@ -63,10 +63,10 @@ first_eight_only words frame buffer words' buffer' r s =
     let left = by r s.answered in (ap length s.bytes ∙ left.0, ap (drop 8) s.bytes ∙ left.1)
   where
     by : (a : Answer) → a ≡ answer words frame (length buffer) → (length (filled buffer frame a) ≡ length buffer) × (drop 8 (filled buffer frame a) ≡ drop 8 buffer)
-    by Silent e = (refl, refl)
-    by (Aborted x) e = (omega (arith, length-drop 8 buffer, heard words frame (length buffer) (Aborted x) e (abort_speaks buffer frame (Aborted x) x refl)), refl)
-    by (Value w n) e = (omega (arith, length-drop 8 buffer, heard words frame (length buffer) (Value w n) e (value_speaks buffer frame (Value w n) w n refl)), refl)
-    by (Written k w) e = (omega (arith, length-drop 8 buffer, heard words frame (length buffer) (Written k w) e (written_speaks buffer frame (Written k w) k w refl)), refl)
+    by None e = (refl, refl)
+    by (Some (Err x)) e = (omega (arith, length-drop 8 buffer, heard words frame (length buffer) (Err x) e), refl)
+    by (Some (Ok (Value w n))) e = (omega (arith, length-drop 8 buffer, heard words frame (length buffer) (Ok (Value w n)) e), refl)
+    by (Some (Ok (Written k w))) e = (omega (arith, length-drop 8 buffer, heard words frame (length buffer) (Ok (Written k w)) e), refl)
 
 pub that_one_entry : ThatOneEntry
 unfolding after
@@ -89,10 +89,10 @@ unfolding after
 stays_valid = (valid_at_start, λ words frame room l b v. kept words frame room l b v (answer words frame room) refl)
   where
     kept : (words frame : List ℕ) (room : ℕ) → length words ≡ unit_size → Bytes frame → Valid words → (a : Answer) → answer words frame room ≡ a → Valid (after words a)
-    kept words frame room l b v Silent e = v
-    kept words frame room l b v (Aborted x) e = v
-    kept words frame room l b v (Value w n) e = v
-    kept words frame room l b v (Written slot word) e = valid_forgotten (set words slot word) (still_valid words frame slot word (accepted words frame room slot word e) l b v)
+    kept words frame room l b v None e = v
+    kept words frame room l b v (Some (Err x)) e = v
+    kept words frame room l b v (Some (Ok (Value w n))) e = v
+    kept words frame room l b v (Some (Ok (Written slot word))) e = valid_forgotten (set words slot word) (still_valid words frame slot word (accepted words frame room slot word e) l b v)
 
 pub reads_back : ReadsBack
 unfolding after
@@ -111,23 +111,21 @@ size_not_told unit rest room slot f = go (hidden unit (index_in (0x22 ∷ rest))
     go false h = rw (h, f, commands kind, ne_eqb (write_command (width kind)) 0x80 (no_abort kind).1, h, f)
 
 -- an answer that is no abort of orders 2 and 6
-clear : Answer → Bool
-clear Silent = true
-clear (Aborted a) = not (eqb (code a) 0x05040001) && (not (eqb (code a) 0x06070012) && not (eqb (code a) 0x06070013))
-clear (Value w n) = true
-clear (Written k w) = true
+clear : Result Done Abort → Bool
+clear (Err a) = not (eqb (code a) 0x05040001) && (not (eqb (code a) 0x06070012) && not (eqb (code a) 0x06070013))
+clear (Ok done) = true
 
 pub never_for_its_length : NeverForItsLength
 unfolding answer obeyed command_of writing length_of offered refused stored first clear code
 never_for_its_length unit rest room a e =
-    let three = (and-eq-true_iff _ _).0 (ap clear (sym e) ∙ spoken) in
+    let three = (and-eq-true_iff _ _).0 (spoken (silent (0x22 ∷ rest) room) _ (by_name (sought unit (index_in (0x22 ∷ rest)) (sub_in (0x22 ∷ rest)))) e) in
     let two = (and-eq-true_iff _ _).0 three.1 in
     (differs three.0, differs two.0, differs two.1)
   where
     differs : {m n : ℕ} → not (eqb m n) ≡ true → m ≡ n → ⊥
     differs {m} {n} t = eqb-false m n (not-true (eqb m n) t)
 
-    either : (test : Bool) (x y : Answer) → clear x ≡ true → clear y ≡ true → clear (first test x y) ≡ true
+    either : (test : Bool) (x y : Result Done Abort) → clear x ≡ true → clear y ≡ true → clear (first test x y) ≡ true
     either test x y p q = chosen (λ r. clear r ≡ true) test x y (λ t. p) (λ t. q)
 
     by_verdict : (slot word : ℕ) (v : Result ⊤ Fault) → clear (stored slot word v) ≡ true
@@ -138,27 +136,28 @@ never_for_its_length unit rest room a e =
     by_verdict slot word (Err fault.ChainUp) = refl
     by_verdict slot word (Err fault.ChainDown) = refl
 
-    by_name : (f : Result Named Missing) → clear (writing unit (0x22 ∷ rest) Untold f) ≡ true
+    by_name : (f : Result Named Missing) → clear (writing unit (0x22 ∷ rest) None f) ≡ true
     by_name (Err missing.Index) = refl
     by_name (Err missing.Sub) = refl
     by_name (Ok (Count n)) = refl
     by_name (Ok (At slot)) =
-        either (not (ltb slot writable)) (Aborted abort.ReadOnly) _ refl
+        either (not (ltb slot writable)) (Err abort.ReadOnly) _ refl
         (rw (le-ltb (size_of slot) (size_of slot) (omega arith))
-        (either (unclear slot (data_in (size_of slot) (0x22 ∷ rest))) (Aborted abort.NotClear) _ refl (by_verdict slot _ (judged unit slot (data_in (size_of slot) (0x22 ∷ rest))))))
+        (either (unclear slot (data_in (size_of slot) (0x22 ∷ rest))) (Err abort.NotClear) _ refl (by_verdict slot _ (judged unit slot (data_in (size_of slot) (0x22 ∷ rest))))))
 
-    spoken : clear (answer unit (0x22 ∷ rest) room) ≡ true
-    spoken = either (silent (0x22 ∷ rest) room) Silent _ refl (by_name (sought unit (index_in (0x22 ∷ rest)) (sub_in (0x22 ∷ rest))))
+    spoken : (quiet : Bool) (d : Result Done Abort) → clear d ≡ true → first quiet None (Some d) ≡ Some (Err a) → clear (Err a) ≡ true
+    spoken true d c e = absurd (none-some _ e)
+    spoken false d c e = let same : d ≡ Err a = cc in ap clear (sym same) ∙ c
 
 pub decided_by_configuration : DecidedByConfiguration
 unfolding answer obeyed reading writing offered
 decided_by_configuration words other frame room slot same f h =
-    ap (first (silent frame room) Silent) (by (command_of (get_or frame 0 0)))
+    ap (λ (d : Result Done Abort). first (silent frame room) None (Some d)) (by (command_of (get_or frame 0 0)))
   where
     there : (unit : List ℕ) → sought unit (index_in frame) (sub_in frame) ≡ Ok (At slot)
     there unit = still_sought unit (index_in frame) (sub_in frame) slot f (can_be_written slot h)
 
-    by : (c : Command) → obeyed words frame c ≡ obeyed other frame c
-    by Read = rw (there words, there other, same slot h)
-    by (Write size) = rw (there words, there other, judged_same words other (λ k l. same k l) slot (data_in (length_of size (size_of slot)) frame) h)
-    by Other = refl
+    by : (c : Result Command Abort) → obeyed words frame c ≡ obeyed other frame c
+    by (Ok Read) = rw (there words, there other, same slot h)
+    by (Ok (Write size)) = rw (there words, there other, judged_same words other (λ k l. same k l) slot (data_in (length_of size (size_of slot)) frame) h)
+    by (Err a) = refl

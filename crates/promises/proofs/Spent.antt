@@ -8,8 +8,7 @@ use lib.ListN.{set, take}
 use Rattle.dictionary.specs.Names.{configured}
 use Rattle.dictionary.specs.Unit.{unticked}
 use Rattle.sdo.specs.Answers.{answer}
-use Rattle.sdo.specs.declared.types.Answer.{Answer}
-use Rattle.sdo.specs.declared.types.Answer.TheVariants.{Silent, Aborted, Value, Written}
+use Rattle.sdo.specs.declared.types.Done.TheVariants.{Value, Written}
 use Rattle.sdo.specs.Served.{after}
 use Rattle.controller.specs.Tick.{ticked}
 use Rattle.sending.specs.Sending.{sends, total}
@@ -19,15 +18,17 @@ use Rattle.promises.specs.Restoring.{writes, FramesAndTicks}
 use Rattle.promises.proofs.Forgetting.{front_forgotten}
 use Rattle.promises.proofs.Running.{kept_by_tick}
 use Rattle.promises.proofs.Underway.{front_is}
+use Rattle.sdo.specs.Frames.{Answer}
+use Rattle.std.specs.Prelude.{Some, None, Ok, Err}
 
 -- an accepted write is worth at least what its slot weighs
-module _ (f : ℕ → ℕ) (worth : Answer → ℕ) (enough : (slot word : ℕ) → f slot ≤ worth (Written slot word)) where
+module _ (f : ℕ → ℕ) (worth : Answer → ℕ) (enough : (slot word : ℕ) → f slot ≤ worth (Some (Ok (Written slot word)))) where
   by_answer : (unit wanted : List ℕ) (a : Answer) → weight f unit wanted ≤ worth a + weight f (after unit a) wanted
   unfolding after
-  by_answer unit wanted Silent = omega arith
-  by_answer unit wanted (Aborted x) = omega arith
-  by_answer unit wanted (Value w n) = omega arith
-  by_answer unit wanted (Written slot word) =
+  by_answer unit wanted None = omega arith
+  by_answer unit wanted (Some (Err x)) = omega arith
+  by_answer unit wanted (Some (Ok (Value w n))) = omega arith
+  by_answer unit wanted (Some (Ok (Written slot word))) =
       let stored = set unit slot word in
       omega (arith, enough slot word, weight_step f unit wanted slot word, weight_same f (unticked stored) wanted stored wanted (front_forgotten stored) (λ k h. refl))
 

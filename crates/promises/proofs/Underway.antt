@@ -10,8 +10,8 @@ use Rattle.dictionary.specs.Names.{configured}
 use Rattle.dictionary.specs.Unit.{unit_size, unticked}
 use Rattle.entries.proofs.Configuration.{can_be_written, in_unit}
 use Rattle.sdo.specs.Answers.{stored, answer}
-use Rattle.sdo.specs.declared.types.Answer.{Answer}
-use Rattle.sdo.specs.declared.types.Answer.TheVariants.{Silent, Aborted, Value, Written}
+use Rattle.entries.specs.declared.types.Fault.{Fault}
+use Rattle.sdo.specs.declared.types.Done.TheVariants.{Value, Written}
 use Rattle.sdo.specs.Served.{after}
 use Rattle.image.specs.Loaded.{loaded}
 use Rattle.image.specs.Reading.{reading, configuration_in}
@@ -25,6 +25,8 @@ use Rattle.promises.specs.Restoring.{Proper, Calm, Sent, Holds}
 use Rattle.promises.proofs.Proper.{good}
 use Rattle.promises.proofs.Forgetting.{front_forgotten, size_stored}
 use Rattle.promises.proofs.Running.{sizes, all_words, kept_by_tick, size_by_load}
+use Rattle.sdo.specs.Frames.{Answer}
+use Rattle.std.specs.Prelude.{Some, None, Ok, Err, Result, ⊤}
 
 -- ---- a calm event keeps the configuration's words
 
@@ -32,12 +34,12 @@ pub record Kept (unit unit' : List ℕ) : Type 0 where
   pub long : length unit' ≡ length unit
   pub same : (k : ℕ) → k < configured → get_or unit' k 0 ≡ get_or unit k 0
 
-by_answer : (unit : List ℕ) (a : Answer) → ((slot word : ℕ) → a ≡ Written slot word → configured ≤ slot) → Kept unit (after unit a)
+by_answer : (unit : List ℕ) (a : Answer) → ((slot word : ℕ) → a ≡ Some (Ok (Written slot word)) → configured ≤ slot) → Kept unit (after unit a)
 unfolding after
-by_answer unit Silent calm = record { long = refl; same = λ k h. refl }
-by_answer unit (Aborted x) calm = record { long = refl; same = λ k h. refl }
-by_answer unit (Value w n) calm = record { long = refl; same = λ k h. refl }
-by_answer unit (Written slot word) calm =
+by_answer unit None calm = record { long = refl; same = λ k h. refl }
+by_answer unit (Some (Err x)) calm = record { long = refl; same = λ k h. refl }
+by_answer unit (Some (Ok (Value w n))) calm = record { long = refl; same = λ k h. refl }
+by_answer unit (Some (Ok (Written slot word))) calm =
     let far = calm slot word refl in
     record {
       long = size_stored unit slot word;
@@ -73,7 +75,7 @@ module _ (current wanted : List ℕ) where
     pub slot : ℕ
     pub inside : slot < configured
     pub is : frame_at wanted slot ≡ f
-    pub answers : (room : ℕ) → 8 ≤ room → answer unit f room ≡ Written slot (get_or (configuration_in wanted) slot 0)
+    pub answers : (room : ℕ) → 8 ≤ room → answer unit f room ≡ Some (Ok (Written slot (get_or (configuration_in wanted) slot 0)))
     pub then : Going rest (unticked (set unit slot (get_or (configuration_in wanted) slot 0)))
 
   -- all of them at first, and none at the end
@@ -114,7 +116,7 @@ module _ (current wanted : List ℕ) where
               inside = inside;
               is = same;
               answers = λ room h.
-                  ap (λ (x : List ℕ). answer unit x room) (sym same) ∙ answered wanted (good second) slot inside unit room h ∙ ap (stored slot word) (Sending.accepted first.valid second.valid u there);
+                  ap (λ (x : List ℕ). answer unit x room) (sym same) ∙ answered wanted (good second) slot inside unit room h ∙ ap (λ (v : Result ⊤ Fault). Some (stored slot word v)) (Sending.accepted first.valid second.valid u there);
               then = record { slots = slots; left = Sending.as_well (Sending.step u there) (front_forgotten (set unit slot word)); as_frames = cc; long = size_stored unit slot word ∙ g.long };
             }
 

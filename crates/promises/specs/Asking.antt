@@ -1,20 +1,20 @@
 -- What is promised of a question why, document 02 (v), and of its refusals.
 -- Assumes nothing.
-use Rattle.std.specs.Prelude.{ℕ, ◌+◌, ◌<◌, Bool, true, false, not, ◌||◌, List, [], ◌∷◌, ◌≡◌, ℤ, pos, negsuc}
+use Rattle.std.specs.Prelude.{ℕ, ◌+◌, ◌<◌, Bool, true, false, not, ◌||◌, List, [], ◌∷◌, ◌≡◌, ℤ, pos, negsuc, Some, None, Ok, Err}
 use Rattle.numbers.specs.Choice.{first}
 use Rattle.roles.specs.Values.{at_start}
 use Rattle.records.specs.declared.types.Outcome.{Outcome}
 use Rattle.records.specs.declared.types.Outcome.TheVariants.{Good, Refused}
 use Rattle.image.specs.Reading.{reading}
 use Rattle.sdo.specs.Answers.{answer}
-use Rattle.sdo.specs.declared.types.Answer.{Answer}
-use Rattle.sdo.specs.declared.types.Answer.TheVariants.{Silent, Aborted, Value, Written}
+use Rattle.sdo.specs.declared.types.Done.TheVariants.{Value, Written}
 use Rattle.controller.specs.Commands.{rule_for}
 use Rattle.controller.specs.Tick.{ticked}
 use Rattle.why.specs.Answer.{no_output}
 use Rattle.why.specs.Explains.{Explains}
 use Rattle.firmware.specs.Told.{ToldWhy}
 use Rattle.promises.specs.Running.{Event, frame, tick, load, happens, run, MadeOfBytes}
+use Rattle.sdo.specs.Frames.{Answer}
 
 -- from the start, after any list of events and one tick more, of each output
 abbrev pub ToldAsItWas : Type 0
@@ -24,10 +24,10 @@ ToldAsItWas =
 
 -- whether there was a tick since: an accepted write, any frame answered 60h, takes it back
 unfoldable pub since_answer : Answer → Bool → Bool
-since_answer Silent since = since
-since_answer (Aborted a) since = since
-since_answer (Value word size) since = since
-since_answer (Written slot word) since = false
+since_answer None since = since
+since_answer (Some (Err a)) since = since
+since_answer (Some (Ok (Value word size))) since = since
+since_answer (Some (Ok (Written slot word))) since = false
 
 -- and so does an image that is loaded
 unfoldable pub since_load : Outcome → Bool → Bool

@@ -1,6 +1,6 @@
 -- What is promised of the error list, object 1003h, of document 02 (viii).
 -- Assumes nothing.
-use Rattle.std.specs.Prelude.{ℕ, ◌-◌, ◌<◌, ◌≤◌, Bool, true, false, List, [], ◌∷◌, ◌++◌, ◌≡◌, eqb, length, get_or, take}
+use Rattle.std.specs.Prelude.{ℕ, ◌-◌, ◌<◌, ◌≤◌, Bool, true, false, List, [], ◌∷◌, ◌++◌, ◌≡◌, eqb, length, get_or, take, Option, Some, None, Ok, Err}
 use Rattle.numbers.specs.Choice.{first}
 use Rattle.dictionary.specs.Names.{slot_of}
 use Rattle.dictionary.specs.Unit.{unit_size}
@@ -8,13 +8,11 @@ use Rattle.roles.specs.Values.{at_start}
 use Rattle.image.specs.Loaded.{loaded}
 use Rattle.image.specs.Reading.{reading}
 use Rattle.sdo.specs.Answers.{length_of, answer}
-use Rattle.sdo.specs.Frames.{index_in, sub_in, command_of, data_in}
+use Rattle.sdo.specs.Frames.{Answer, index_in, sub_in, command_of, data_in}
 use Rattle.sdo.specs.Served.{after}
 use Rattle.sdo.specs.declared.types.Abort.TheVariants as abort
-use Rattle.sdo.specs.declared.types.Answer.{Answer}
-use Rattle.sdo.specs.declared.types.Answer.TheVariants.{Silent, Aborted, Value, Written}
+use Rattle.sdo.specs.declared.types.Done.TheVariants.{Value, Written}
 use Rattle.sdo.specs.declared.types.Command.TheVariants.{Read, Write}
-use Rattle.sdo.specs.declared.types.Size.{Size}
 use Rattle.unit.specs.Entry.{entry}
 use Rattle.input.specs.Errors.{errors}
 use Rattle.controller.specs.Listed.{flaggings}
@@ -23,10 +21,10 @@ use Rattle.promises.specs.Running.{Event, frame, tick, load, happens, run}
 
 -- an accepted write to 1003h:0
 unfoldable pub clears : Answer → Bool
-clears Silent = false
-clears (Aborted a) = false
-clears (Value word size) = false
-clears (Written slot word) = eqb slot (slot_of 0x1003 0)
+clears None = false
+clears (Some (Err a)) = false
+clears (Some (Ok (Value word size))) = false
+clears (Some (Ok (Written slot word))) = eqb slot (slot_of 0x1003 0)
 
 -- "0 clears the whole list and leaves 1001h", and no other frame touches it
 abbrev pub OnlyCleared : Type 0
@@ -56,15 +54,15 @@ pub record NamesError (f : List ℕ) (room sub : ℕ) : Type 0 where
 -- where sub 0 agrees with the list: it reads the list's length, sub k its k-th entry, "newest at sub 1"; "a sub above the number kept gives 06090011h",
 -- to reads and writes; a sub that is kept can only be read; sub 0 takes one byte that is 0, and "another value at sub 0 gives 06090030h"
 pub record Told (unit f : List ℕ) (room sub : ℕ) : Type 0 where
-  pub number : command_of (get_or f 0 0) ≡ Read → sub ≡ 0 → answer unit f room ≡ Value (length (errors unit)) 1
-  pub kept : command_of (get_or f 0 0) ≡ Read → 0 < sub → sub ≤ length (errors unit) → answer unit f room ≡ Value (get_or (errors unit) (sub - 1) 0) 4
-  pub not_read : command_of (get_or f 0 0) ≡ Read → length (errors unit) < sub → answer unit f room ≡ Aborted abort.NoSub
-  pub not_written : (size : Size) → command_of (get_or f 0 0) ≡ Write size → length (errors unit) < sub → answer unit f room ≡ Aborted abort.NoSub
-  pub only_read : (size : Size) → command_of (get_or f 0 0) ≡ Write size → 0 < sub → sub ≤ length (errors unit) → answer unit f room ≡ Aborted abort.ReadOnly
-  pub cleared : (size : Size) → command_of (get_or f 0 0) ≡ Write size → length_of size 1 ≡ 1 → sub ≡ 0 → data_in 1 f ≡ 0
-      → answer unit f room ≡ Written (slot_of 0x1003 0) 0
-  pub not_cleared : (size : Size) → command_of (get_or f 0 0) ≡ Write size → length_of size 1 ≡ 1 → sub ≡ 0 → (data_in 1 f ≡ 0 → ⊥)
-      → answer unit f room ≡ Aborted abort.NotClear
+  pub number : command_of (get_or f 0 0) ≡ Ok Read → sub ≡ 0 → answer unit f room ≡ Some (Ok (Value (length (errors unit)) 1))
+  pub kept : command_of (get_or f 0 0) ≡ Ok Read → 0 < sub → sub ≤ length (errors unit) → answer unit f room ≡ Some (Ok (Value (get_or (errors unit) (sub - 1) 0) 4))
+  pub not_read : command_of (get_or f 0 0) ≡ Ok Read → length (errors unit) < sub → answer unit f room ≡ Some (Err abort.NoSub)
+  pub not_written : (size : Option ℕ) → command_of (get_or f 0 0) ≡ Ok (Write size) → length (errors unit) < sub → answer unit f room ≡ Some (Err abort.NoSub)
+  pub only_read : (size : Option ℕ) → command_of (get_or f 0 0) ≡ Ok (Write size) → 0 < sub → sub ≤ length (errors unit) → answer unit f room ≡ Some (Err abort.ReadOnly)
+  pub cleared : (size : Option ℕ) → command_of (get_or f 0 0) ≡ Ok (Write size) → length_of size 1 ≡ 1 → sub ≡ 0 → data_in 1 f ≡ 0
+      → answer unit f room ≡ Some (Ok (Written (slot_of 0x1003 0) 0))
+  pub not_cleared : (size : Option ℕ) → command_of (get_or f 0 0) ≡ Ok (Write size) → length_of size 1 ≡ 1 → sub ≡ 0 → (data_in 1 f ≡ 0 → ⊥)
+      → answer unit f room ≡ Some (Err abort.NotClear)
 
 abbrev pub ReadExactly : Type 0
 ReadExactly = (unit f : List ℕ) (room sub : ℕ) → length unit ≡ unit_size → Agrees unit → NamesError f room sub → Told unit f room sub
@@ -87,5 +85,5 @@ LastEight = (events : List Event) → errors (run events at_start) ≡ take 8 (r
 abbrev pub WhatWentWrongFirst : Type 0
 WhatWentWrongFirst =
     (events : List Event) → let flagged = recalled events at_start [] in
-    0 < length flagged → length flagged ≤ 8 → (f : List ℕ) (room : ℕ) → NamesError f room (length flagged) → command_of (get_or f 0 0) ≡ Read
-    → answer (run events at_start) f room ≡ Value (get_or flagged (length flagged - 1) 0) 4
+    0 < length flagged → length flagged ≤ 8 → (f : List ℕ) (room : ℕ) → NamesError f room (length flagged) → command_of (get_or f 0 0) ≡ Ok Read
+    → answer (run events at_start) f room ≡ Some (Ok (Value (get_or flagged (length flagged - 1) 0) 4))

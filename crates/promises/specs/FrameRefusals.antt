@@ -1,6 +1,6 @@
 -- "Bad input meets its listed refusal", of frames: the table of "Frames" in the paper's rows and order. The first row that applies answers; if none does, the frame is good.
 -- Assumes nothing.
-use Rattle.std.specs.Prelude.{ℕ, Bool, true, false, not, ◌&&◌, ◌||◌, ◌≡◌, List, [], ◌∷◌, map, eqb, ltb, length, get_or, Result, Ok, Err}
+use Rattle.std.specs.Prelude.{ℕ, Bool, true, false, not, ◌&&◌, ◌||◌, ◌≡◌, List, [], ◌∷◌, map, eqb, ltb, length, get_or, Result, Ok, Err, Some, None}
 use Rattle.numbers.specs.Choice.{first}
 use Rattle.numbers.specs.Order.{below}
 use Rattle.numbers.specs.Signed.{signed16}
@@ -15,10 +15,9 @@ use Rattle.roles.specs.Roles.{chosen}
 use Rattle.roles.specs.Values.{range_of}
 use Rattle.entries.specs.Judge.{number_of, finite, past_upper, past_lower}
 use Rattle.sdo.specs.Answers.{unclear, reading, answer}
-use Rattle.sdo.specs.Frames.{index_in, sub_in, data_in, code}
+use Rattle.sdo.specs.Frames.{Answer, index_in, sub_in, data_in, code}
 use Rattle.sdo.specs.declared.types.Abort.TheVariants as abort
-use Rattle.sdo.specs.declared.types.Answer.{Answer}
-use Rattle.sdo.specs.declared.types.Answer.TheVariants.{Silent, Aborted, Value, Written}
+use Rattle.sdo.specs.declared.types.Done.TheVariants.{Value, Written}
 
 -- the answer of the first row that applies, or else the last
 unfoldable pub first_match : {A : Type 0} → List (Bool × A) → A → A
@@ -63,24 +62,24 @@ name_rows unit name above size word =
     let own = own_bytes name in
     let value = number_of range.kind word in
     -- "3 | index unknown | 06020000h"
-    (unknown_index name, Aborted abort.NoIndex)
+    (unknown_index name, Some (Err abort.NoIndex))
     -- "4 | sub unknown | 06090011h"; (viii) "a sub above the number kept gives 06090011h, in order 4"
-    ∷ (unknown_sub name || above, Aborted abort.NoSub)
+    ∷ (unknown_sub name || above, Some (Err abort.NoSub))
     -- "5 | write to a read-only name | 06010002h"
-    ∷ (write && read_only name, Aborted abort.ReadOnly)
+    ∷ (write && read_only name, Some (Err abort.ReadOnly))
     -- "6 | longer, shorter than the type | 06070012h, 06070013h"
-    ∷ (write && ltb own size, Aborted abort.TooLong)
-    ∷ (write && ltb size own, Aborted abort.TooShort)
+    ∷ (write && ltb own size, Some (Err abort.TooLong))
+    ∷ (write && ltb size own, Some (Err abort.TooShort))
     -- (viii) "another value at sub 0 gives 06090030h, after order 6"
-    ∷ (write && unclear slot word, Aborted abort.NotClear)
+    ∷ (write && unclear slot word, Some (Err abort.NotClear))
     -- "7 | REAL32 not finite | 06090030h"
-    ∷ (write && not (finite range.kind word), Aborted abort.NotFinite)
+    ∷ (write && not (finite range.kind word), Some (Err abort.NotFinite))
     -- "8 | above, below own range | 06090031h, 06090032h"
-    ∷ (write && below range.high value, Aborted abort.Above)
-    ∷ (write && below value range.low, Aborted abort.Below)
+    ∷ (write && below range.high value, Some (Err abort.Above))
+    ∷ (write && below value range.low, Some (Err abort.Below))
     -- "9 | breaks the chain upward, downward | 06090031h, 06090032h"
-    ∷ (write && past_upper unit (upper_of slot) (signed16 word), Aborted abort.ChainUp)
-    ∷ (write && past_lower unit (lower_of slot) (signed16 word), Aborted abort.ChainDown)
+    ∷ (write && past_upper unit (upper_of slot) (signed16 word), Some (Err abort.ChainUp))
+    ∷ (write && past_lower unit (lower_of slot) (signed16 word), Some (Err abort.ChainDown))
     ∷ []
 
 -- the table
@@ -90,9 +89,9 @@ frame_rows unit frame room =
     let name = find (index_in frame) (sub_in frame) in
     let size = bytes_written (own_bytes name) command in
     -- "1 | frame not 8 long, reply buffer under 8, or command 80h | no reply, buffer untouched"
-    (not (eqb (length frame) 8) || (ltb room 8 || eqb command 0x80), Silent)
+    (not (eqb (length frame) 8) || (ltb room 8 || eqb command 0x80), None)
     -- "2 | other command byte | 05040001h"; "a read is 40h"
-    ∷ (not (eqb command 0x40 || ltb 0 size), Aborted abort.Command)
+    ∷ (not (eqb command 0x40 || ltb 0 size), Some (Err abort.Command))
     ∷ name_rows unit name (hidden unit (index_in frame) (sub_in frame)) size (data_in size frame)
 
 -- the answer to a good frame: what is written is stored in its entry's word, or what is read is sent
@@ -100,7 +99,7 @@ unfoldable pub good : List ℕ → List ℕ → Answer
 good unit frame =
     let name = find (index_in frame) (sub_in frame) in
     let size = bytes_written (own_bytes name) (get_or frame 0 0) in
-    first (ltb 0 size) (Written (slot_found name) (data_in size frame)) (reading unit name)
+    first (ltb 0 size) (Some (Ok (Written (slot_found name) (data_in size frame)))) (Some (reading unit name))
 
 -- so is answered any frame to any unit, with any room for the reply
 abbrev pub FramesMeetTheirs : Type 0
@@ -108,10 +107,10 @@ FramesMeetTheirs = (unit frame : List ℕ) (room : ℕ) → answer unit frame ro
 
 -- the code that an answer sends, if any
 unfoldable pub code_sent : Answer → ℕ
-code_sent Silent = 0
-code_sent (Aborted a) = code a
-code_sent (Value word size) = 0
-code_sent (Written slot word) = 0
+code_sent None = 0
+code_sent (Some (Err a)) = code a
+code_sent (Some (Ok (Value word size))) = 0
+code_sent (Some (Ok (Written slot word))) = 0
 
 -- the rows' codes are those that stand above them
 abbrev pub CodesAsListed : Type 0

@@ -1,6 +1,6 @@
 -- What is promised of a restore list: of the bytes and the number that `restore_list` leaves to C, sent to a unit as frames.
 -- Assumes nothing.
-use Rattle.std.specs.Prelude.{ℕ, ◌+◌, ◌<◌, ◌≤◌, false, ◌⊎◌, ◌≡◌, List, [], ◌∷◌, ◌++◌, ℤ, pos, negsuc, neg_ℤ, length, get_or, take, drop}
+use Rattle.std.specs.Prelude.{ℕ, ◌+◌, ◌<◌, ◌≤◌, false, ◌⊎◌, ◌≡◌, List, [], ◌∷◌, ◌++◌, ℤ, pos, negsuc, neg_ℤ, length, get_or, take, drop, Some, None, Ok, Err}
 use Rattle.octets.specs.Little.{little, Bytes}
 use Rattle.numbers.specs.Order.{below}
 use Rattle.dictionary.specs.Names.{configured}
@@ -8,9 +8,8 @@ use Rattle.dictionary.specs.Unit.{unit_size}
 use Rattle.roles.specs.Values.{at_start}
 use Rattle.entries.specs.Valid.{Valid}
 use Rattle.sdo.specs.Answers.{size_of, answer}
-use Rattle.sdo.specs.Frames.{name_in, reply_to}
-use Rattle.sdo.specs.declared.types.Answer.{Answer}
-use Rattle.sdo.specs.declared.types.Answer.TheVariants.{Silent, Aborted, Value, Written}
+use Rattle.sdo.specs.Frames.{Answer, name_in, reply_to}
+use Rattle.sdo.specs.declared.types.Done.TheVariants.{Value, Written}
 use Rattle.sdo.specs.Served.{after}
 use Rattle.records.specs.Layout.{Listed, listed, size, image_of}
 use Rattle.records.specs.Walk.{index_in, sub_in, size_in}
@@ -65,7 +64,7 @@ pub record Restoring (current wanted buffer buffer' : List ℕ) (r : ℤ) (unit 
 
 -- what may come between: a tick, a read, a refused frame, a write to 2500h, a load that leaves every entry as it was
 abbrev pub Calm : Event → List ℕ → Type 0
-Calm (frame f room) unit = (slot word : ℕ) → answer unit f room ≡ Written slot word → configured ≤ slot
+Calm (frame f room) unit = (slot word : ℕ) → answer unit f room ≡ Some (Ok (Written slot word)) → configured ≤ slot
 Calm (tick samples) unit = Unit
 Calm (load image) unit = take configured (happens (load image) unit) ≡ take configured unit
 
@@ -109,17 +108,17 @@ Arrives =
 
 -- an accepted write counts as one record
 abbrev pub one_record : Answer → ℕ
-one_record Silent = 0
-one_record (Aborted a) = 0
-one_record (Value word n) = 0
-one_record (Written slot word) = 1
+one_record None = 0
+one_record (Some (Err a)) = 0
+one_record (Some (Ok (Value word n))) = 0
+one_record (Some (Ok (Written slot word))) = 1
 
 -- or as the bytes that the record has in a list
 abbrev pub record_bytes : Answer → ℕ
-record_bytes Silent = 0
-record_bytes (Aborted a) = 0
-record_bytes (Value word n) = 0
-record_bytes (Written slot word) = 7 + size_of slot
+record_bytes None = 0
+record_bytes (Some (Err a)) = 0
+record_bytes (Some (Ok (Value word n))) = 0
+record_bytes (Some (Ok (Written slot word))) = 7 + size_of slot
 
 -- what the accepted writes of a list of events come to
 abbrev pub written_by : (Answer → ℕ) → Event → List ℕ → ℕ
@@ -170,8 +169,8 @@ OwnImage = (events : List Event) → MadeOfBytes events → let unit = run event
 -- a list of accepted writes
 pub data Accepts : List (List ℕ) → List ℕ → List ℕ → Type 0 where
   end : {unit : List ℕ} → Accepts [] unit unit
-  next : {f : List ℕ} {frames : List (List ℕ)} {unit unit' : List ℕ} (slot word : ℕ) → Bytes f → answer unit f 8 ≡ Written slot word
-      → Accepts frames (after unit (Written slot word)) unit' → Accepts (f ∷ frames) unit unit'
+  next : {f : List ℕ} {frames : List (List ℕ)} {unit unit' : List ℕ} (slot word : ℕ) → Bytes f → answer unit f 8 ≡ Some (Ok (Written slot word))
+      → Accepts frames (after unit (Some (Ok (Written slot word)))) unit' → Accepts (f ∷ frames) unit unit'
 
 -- one that takes a unit to a configuration
 pub record Reaches (unit words : List ℕ) : Type 0 where

@@ -6,7 +6,6 @@ use Rattle.dictionary.specs.Unit.{unit_size}
 use Rattle.entries.specs.Valid.{Valid}
 use Rattle.roles.specs.Values.{at_start}
 use Rattle.sdo.specs.Answers.{answer}
-use Rattle.sdo.specs.declared.types.Answer.{Answer}
 use Rattle.sdo.specs.Served.{Served, after}
 use Rattle.records.specs.declared.types.Outcome.{Outcome}
 use Rattle.image.specs.Reading.{reading}
@@ -15,6 +14,7 @@ use Rattle.unit.specs.Entry.{entry}
 use Rattle.controller.specs.Register.{any_flagged}
 use Rattle.controller.specs.Tick.{ticked}
 use Rattle.octets.specs.Little.{Bytes}
+use Rattle.sdo.specs.Frames.{Answer}
 
 pub data Event : Type 0 where
   -- a frame, and the room that its reply has

@@ -16,12 +16,12 @@ use Rattle.roles.specs.Chains.{chains, upper_in, lower_in, upper_of, lower_of}
 use Rattle.roles.specs.Values.{range_of}
 use Rattle.roles.specs.declared.types.Link.TheVariants.{Free}
 use Rattle.entries.specs.Judge.{number_of, finite, within, in_range, past_upper, past_lower, in_order, judged}
-use Rattle.std.specs.Prelude.{Result, Ok, is_ok, ⊤}
+use Rattle.std.specs.Prelude.{Result, Ok, Err, is_ok, ⊤}
 use Rattle.entries.specs.declared.types.Fault.{Fault}
 use Rattle.sdo.specs.Answers.{stored, unclear}
+use Rattle.sdo.specs.declared.types.Abort.{Abort}
 use Rattle.sdo.specs.declared.types.Abort.TheVariants as abort
-use Rattle.sdo.specs.declared.types.Answer.{Answer}
-use Rattle.sdo.specs.declared.types.Answer.TheVariants.{Aborted}
+use Rattle.sdo.specs.declared.types.Done.{Done}
 
 own_range : range_of (slot_of 0x1003 0) ≡ (u8 0 255 0).range
 unfolding range_of slot_of
@@ -48,7 +48,7 @@ before_it : configured ≤ slot_of 0x1003 0
 unfolding configured slot_of
 before_it = lit≤ tt
 
-pub configured_through : (slot word : ℕ) → slot < configured → (a : Answer) → first (unclear slot word) (Aborted abort.NotClear) a ≡ a
+pub configured_through : (slot word : ℕ) → slot < configured → (a : Result Done Abort) → first (unclear slot word) (Err abort.NotClear) a ≡ a
 unfolding unclear first
 configured_through slot word h a = rw (ne_eqb slot (slot_of 0x1003 0) (λ e. omega (arith, before_it)))
 
@@ -60,11 +60,11 @@ unclear_good unit slot word q =
 
 -- so the code may ask of a good word alone
 pub soon_enough : (unit : List ℕ) (slot word : ℕ) (v : Result ⊤ Fault) → v ≡ judged unit slot word
-    → first (is_ok v && unclear slot word) (Aborted abort.NotClear) (stored slot word v) ≡ first (unclear slot word) (Aborted abort.NotClear) (stored slot word (judged unit slot word))
+    → first (is_ok v && unclear slot word) (Err abort.NotClear) (stored slot word v) ≡ first (unclear slot word) (Err abort.NotClear) (stored slot word (judged unit slot word))
 unfolding first
 soon_enough unit slot word v e = go (unclear slot word) refl
   where
     go : (u : Bool) → unclear slot word ≡ u
-        → first (is_ok v && u) (Aborted abort.NotClear) (stored slot word v) ≡ first u (Aborted abort.NotClear) (stored slot word (judged unit slot word))
+        → first (is_ok v && u) (Err abort.NotClear) (stored slot word v) ≡ first u (Err abort.NotClear) (stored slot word (judged unit slot word))
     go true q = rw (e ∙ unclear_good unit slot word q)
     go false q = rw (← e) (simp and-false)

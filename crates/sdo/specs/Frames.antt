@@ -1,15 +1,14 @@
 -- Frames: "Eight bytes: command, index low byte first, sub, four data bytes low byte first."
 -- Assumes nothing.
-use Rattle.std.specs.Prelude.{ℕ, ◌%◌, List, [], ◌∷◌, ◌++◌, eqb, get_or, take, drop}
+use Rattle.std.specs.Prelude.{ℕ, ◌%◌, List, [], ◌∷◌, ◌++◌, Option, Some, None, Result, Ok, Err, eqb, get_or, take, drop}
 use Rattle.octets.specs.Little.{little, bytes}
 use Rattle.numbers.specs.Choice.{first}
 use Rattle.sdo.specs.declared.types.Abort.{Abort}
 use Rattle.sdo.specs.declared.types.Abort.TheVariants as abort
-use Rattle.sdo.specs.declared.types.Answer.{Answer}
-use Rattle.sdo.specs.declared.types.Answer.TheVariants.{Silent, Aborted, Value, Written}
 use Rattle.sdo.specs.declared.types.Command.{Command}
-use Rattle.sdo.specs.declared.types.Command.TheVariants.{Read, Write, Other}
-use Rattle.sdo.specs.declared.types.Size.TheVariants.{Told, Untold}
+use Rattle.sdo.specs.declared.types.Command.TheVariants.{Read, Write}
+use Rattle.sdo.specs.declared.types.Done.{Done}
+use Rattle.sdo.specs.declared.types.Done.TheVariants.{Value, Written}
 
 -- the parts of a frame
 unfoldable pub index_in : List ℕ → ℕ
@@ -27,14 +26,14 @@ unfoldable pub data_in : ℕ → List ℕ → ℕ
 data_in size frame = little (take size (drop 4 frame))
 
 -- "Writes of 4, 3, 2, 1 bytes are 23h, 27h, 2Bh, 2Fh; a read is 40h"; "command 22h, which DS-301 allows: expedited, size not told". "No other DS-301 command is taken"
-unfoldable pub command_of : ℕ → Command
+unfoldable pub command_of : ℕ → Result Command Abort
 command_of byte =
-    first (eqb byte 0x40) Read
-    (first (eqb byte 0x23) (Write (Told 4))
-    (first (eqb byte 0x27) (Write (Told 3))
-    (first (eqb byte 0x2B) (Write (Told 2))
-    (first (eqb byte 0x2F) (Write (Told 1))
-    (first (eqb byte 0x22) (Write Untold) Other)))))
+    first (eqb byte 0x40) (Ok Read)
+    (first (eqb byte 0x23) (Ok (Write (Some 4)))
+    (first (eqb byte 0x27) (Ok (Write (Some 3)))
+    (first (eqb byte 0x2B) (Ok (Write (Some 2)))
+    (first (eqb byte 0x2F) (Ok (Write (Some 1)))
+    (first (eqb byte 0x22) (Ok (Write None)) (Err abort.Command))))))
 
 -- the paper's number for each abort
 unfoldable pub code : Abort → ℕ
@@ -63,8 +62,12 @@ cut word size = first (eqb size 4) word (first (eqb size 2) (word % 0x10000) (wo
 unfoldable pub reply : List ℕ → ℕ → ℕ → List ℕ
 reply frame head value = head ∷ name_in frame ++ bytes 4 value
 
+-- what a frame is answered: nothing, or an abort, a value or a word that is written
+abbrev pub Answer : Type 0
+Answer = Option (Result Done Abort)
+
 unfoldable pub reply_to : List ℕ → Answer → List ℕ
-reply_to frame Silent = []
-reply_to frame (Aborted a) = reply frame 0x80 (code a)
-reply_to frame (Value word size) = reply frame (read_command size) (cut word size)
-reply_to frame (Written slot word) = reply frame 0x60 0
+reply_to frame None = []
+reply_to frame (Some (Err a)) = reply frame 0x80 (code a)
+reply_to frame (Some (Ok (Value word size))) = reply frame (read_command size) (cut word size)
+reply_to frame (Some (Ok (Written slot word))) = reply frame 0x60 0

@@ -1,139 +1,99 @@
 // The answer to a frame: the first row of the paper's table that matches.
-ghost use Rattle.std.specs.Prelude.{◌≡◌, ◌<◌, length, get_or, ◌&&◌, is_ok};
-ghost use Rattle.numbers.specs.Choice.{first};
+ghost use Rattle.std.specs.Prelude.{◌≡◌, ◌<◌, true, false, get_or, Some, Ok, MatchOption};
 ghost use Rattle.dictionary.specs.Names.{slot_found};
 ghost use Rattle.dictionary.specs.Unit.{unit_size};
-ghost use Rattle.sdo.specs.Answers.{reading, stored, unclear, length_of, refused, writing, obeyed, answer};
+ghost use Rattle.sdo.specs.Answers.{reading, unclear, writing, obeyed, silent, answer};
 ghost use Rattle.sdo.specs.Frames.{command_of};
 
 use super::data::{command, data_in, index_in, sub_in};
-use super::types::{Abort, Answer, Command, Size};
+use super::types::{Abort, Command, Done};
 use dictionary::naming::find;
 use dictionary::slots::{ERROR_REGISTER, ERRORS_KEPT, Unit};
-use dictionary::types::{Missing, Named};
+use dictionary::types::Named;
 use entries::judging::judge;
-use entries::types::Fault;
 use roles::widths::width;
 
-fn read(unit: &Unit, found: Result<Named, Missing>) -> Answer
-    requires { slot_found found < unit_size }
-    ensures { result ≡ reading unit.now found }
+fn read(unit: &Unit, named: Named) -> Done
+    requires { slot_found (Ok named) < unit_size }
+    ensures { Ok result ≡ reading unit.now (Ok named) }
 {
-    match found {
-        Err(Missing::Index) => Answer::Aborted(Abort::NoIndex),
-        Err(Missing::Sub) => Answer::Aborted(Abort::NoSub),
-        Ok(Named::Count(n)) => Answer::Value(n as u32, 1),
-        Ok(Named::At(slot)) => Answer::Value(unit[slot], width(slot)),
+    match named {
+        Named::Count(n) => Done::Value(u32::from(n), 1),
+        Named::At(slot) => Done::Value(unit[slot], width(slot)),
     }
 }
 
 fn is_unclear(slot: usize, word: u32) -> bool
     ensures { result ≡ unclear slot word }
 {
-    if slot == ERRORS_KEPT {
-        return word != 0;
-    }
-    false
+    slot == ERRORS_KEPT && word != 0
 }
 
-fn store(slot: usize, word: u32, verdict: Result<(), Fault>) -> Answer
-    ensures { result ≡ first (is_ok verdict && unclear slot word) (Answer.Aborted Abort.NotClear) (stored slot word verdict) }
-{
-    match verdict {
-        // any byte is good for 1003h:0, so this is soon enough
-        Ok(()) => {
-            if is_unclear(slot, word) {
-                return Answer::Aborted(Abort::NotClear);
-            }
-            Answer::Written(slot, word)
-        }
-        Err(Fault::NotFinite) => Answer::Aborted(Abort::NotFinite),
-        Err(Fault::Above) => Answer::Aborted(Abort::Above),
-        Err(Fault::Below) => Answer::Aborted(Abort::Below),
-        Err(Fault::ChainUp) => Answer::Aborted(Abort::ChainUp),
-        Err(Fault::ChainDown) => Answer::Aborted(Abort::ChainDown),
-    }
-}
-
-// A write that does not tell its length has the entry's own.
-fn length_of(size: Size, own: u8) -> u8
-    ensures { result ≡ length_of size own }
-{
-    match size {
-        Size::Told(n) => n,
-        Size::Untold => own,
-    }
-}
-
-fn offer(unit: &Unit, frame: &[u8], size: Size, slot: usize) -> Answer
-    requires { length frame.now ≡ 8 }
+fn offer(unit: &Unit, frame: &[u8; 8], size: Option<u8>, slot: usize) -> Result<Done, Abort>
     ensures { result ≡ writing unit.now frame.now size (Ok (Named.At slot)) }
 {
     // the configuration, the EC values and 1003h:0 come first
     if ERROR_REGISTER <= slot {
-        return Answer::Aborted(Abort::ReadOnly);
+        return Err(Abort::ReadOnly);
     }
     let own = width(slot);
-    let length = length_of(size, own);
-    if length != own {
-        if own < length {
-            return Answer::Aborted(Abort::TooLong);
-        }
-        return Answer::Aborted(Abort::TooShort);
+    // a write that does not tell its length has the entry's own
+    let length = size.unwrap_or(own);
+    if own < length {
+        return Err(Abort::TooLong);
+    }
+    if length < own {
+        return Err(Abort::TooShort);
     }
     let word = data_in(frame, own);
-    store(slot, word, judge(unit, slot, word))
-}
-
-// A name that is no entry's.
-fn refuse(found: Result<Named, Missing>) -> Answer
-    ensures { result ≡ refused found }
-{
-    match found {
-        Err(Missing::Index) => Answer::Aborted(Abort::NoIndex),
-        Err(Missing::Sub) => Answer::Aborted(Abort::NoSub),
-        Ok(Named::Count(_)) => Answer::Aborted(Abort::ReadOnly),
-        Ok(Named::At(_)) => Answer::Aborted(Abort::ReadOnly),
+    judge(unit, slot, word)?;
+    // any byte is good for 1003h:0, so this is soon enough
+    if is_unclear(slot, word) {
+        return Err(Abort::NotClear);
     }
+    Ok(Done::Written(slot, word))
 }
 
-fn write(unit: &Unit, frame: &[u8], size: Size, found: Result<Named, Missing>) -> Answer
-    requires { length frame.now ≡ 8 }
-    ensures { result ≡ writing unit.now frame.now size found }
+fn write(unit: &Unit, frame: &[u8; 8], size: Option<u8>, named: Named) -> Result<Done, Abort>
+    ensures { result ≡ writing unit.now frame.now size (Ok named) }
 {
-    match found {
-        Ok(Named::At(slot)) => offer(unit, frame, size, slot),
-        Ok(Named::Count(_)) => refuse(found),
-        Err(Missing::Index) => refuse(found),
-        Err(Missing::Sub) => refuse(found),
-    }
+    let Named::At(slot) = named else {
+        return Err(Abort::ReadOnly);
+    };
+    offer(unit, frame, size, slot)
 }
 
-fn obey(unit: &Unit, frame: &[u8]) -> Answer
-    requires { length frame.now ≡ 8 }
+pub(crate) fn obey(unit: &Unit, frame: &[u8; 8]) -> Result<Done, Abort>
     ensures { result ≡ obeyed unit.now frame.now (command_of (get_or frame.now 0 0)) }
 {
-    let found = find(unit, index_in(frame), sub_in(frame));
-    let command = command(frame[0]);
+    let command = command(frame[0])?;
+    let named = find(unit, index_in(frame), sub_in(frame))?;
     match command {
-        Command::Other => Answer::Aborted(Abort::Command),
-        Command::Read => read(unit, found),
-        Command::Write(size) => write(unit, frame, size, found),
+        Command::Read => Ok(read(unit, named)),
+        Command::Write(size) => write(unit, frame, size, named),
     }
 }
 
-// Any unit, any frame, any room for the reply.
-pub fn decide(unit: &Unit, frame: &[u8], room: usize) -> Answer
-    ensures { result ≡ answer unit.now frame.now room }
+// The frame, if it is answered at all.
+pub(crate) fn heard(frame: &[u8], room: usize) -> Option<&[u8; 8]>
+    ensures { MatchOption result (silent frame.now room ≡ true) (λ f. (silent frame.now room ≡ false) × (f.now ≡ frame.now)) }
 {
-    if frame.len() != 8 {
-        return Answer::Silent;
-    }
+    let Some(frame) = frame.as_array::<8>() else {
+        return None;
+    };
     if room < 8 {
-        return Answer::Silent;
+        return None;
     }
     if frame[0] == 0x80 {
-        return Answer::Silent;
+        return None;
     }
-    obey(unit, frame)
+    Some(frame)
+}
+
+// Any unit, any frame, any room for the reply; none is silence.
+pub fn decide(unit: &Unit, frame: &[u8], room: usize) -> Option<Result<Done, Abort>>
+    ensures { result ≡ answer unit.now frame.now room }
+{
+    let frame = heard(frame, room)?;
+    Some(obey(unit, frame))
 }

@@ -1,16 +1,11 @@
--- By what the frame is answered.
+-- By whether the frame is answered.
 -- Assumes nothing.
-use Rattle.firmware.proofs.Replies.{silent, aborted, value, written, replied}
+use Rattle.sdo.proofs.ReplyLaws.{eight}
+use Rattle.firmware.proofs.Replies.{silent, replied}
 use Rattle.firmware.proofs.valve_serve.Goals as goal
 
-pub returns-in-Silent : goal.returns-in-Silent
-returns-in-Silent c = replied 0 c.serve-answer.ensures (silent _ _ c.in-Silent.is)
+pub returns-in-Some : goal.returns-in-Some
+returns-in-Some c = replied 8 c.serve.ensures (rw c.in-Some.is (eight _ _))
 
-pub returns-in-Aborted : goal.returns-in-Aborted
-returns-in-Aborted c = replied 8 c.serve-answer.ensures (aborted _ _ _ c.in-Aborted.is)
-
-pub returns-in-Value : goal.returns-in-Value
-returns-in-Value c = replied 8 c.serve-answer.ensures (value _ _ _ _ c.in-Value.is)
-
-pub returns-in-Written : goal.returns-in-Written
-returns-in-Written c = replied 8 c.serve-answer.ensures (written _ _ _ _ c.in-Written.is)
+pub returns-in-None : goal.returns-in-None
+returns-in-None c = replied 0 c.serve.ensures (rw c.in-None.is (silent _))

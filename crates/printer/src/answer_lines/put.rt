@@ -45,11 +45,9 @@ fn put_digits(n: u32, at: usize, out: &mut [u8]) -> usize
     ensures { Put out.old at (digits n) out.new result }
 {
     let count = width_of(n);
-    let mut left = count;
     let mut m = n;
-    while left > 0 {
-        left -= 1;
-        out[at + left] = b'0' + (m % 10) as u8;
+    for place in (0..count).rev() {
+        out[at + place] = b'0' + (m % 10) as u8;
         m /= 10;
     }
     at + count
@@ -59,11 +57,12 @@ fn put_decimal(v: i16, at: usize, out: &mut [u8]) -> usize
     requires { at + 6 ≤ length out.old }
     ensures { Put out.old at (decimal v) out.new result }
 {
+    let size = u32::from(v.unsigned_abs());
     if v < 0 {
         out[at] = b'-';
-        return put_digits((0 - v as i32) as u32, at + 1, out);
+        return put_digits(size, at + 1, out);
     }
-    put_digits(v as u32, at, out)
+    put_digits(size, at, out)
 }
 
 // A space and a command.

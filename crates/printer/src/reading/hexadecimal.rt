@@ -2,21 +2,12 @@
 ghost use Rattle.std.specs.Prelude.{◌≡◌};
 ghost use Rattle.printer.specs.Steps.{nibble_of};
 
-// 16 for a byte that is no digit.
-pub fn nibble(b: u8) -> u8
+pub fn nibble(b: u8) -> Option<u8>
     ensures { result ≡ nibble_of b }
 {
-    if b < b'0' {
-        return 16;
+    match b {
+        b'0'..=b'9' => Some(b - b'0'),
+        b'A'..=b'F' => Some(b - b'A' + 10),
+        _ => None,
     }
-    if b <= b'9' {
-        return b - b'0';
-    }
-    if b < b'A' {
-        return 16;
-    }
-    if b <= b'F' {
-        return b - 55;
-    }
-    16
 }

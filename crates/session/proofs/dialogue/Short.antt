@@ -8,12 +8,11 @@ use native.Mathlib.Omega.{arith}
 use lib.Dec.{leb, ltb, lit≤}
 use lib.IntN.{ℤ}
 use lib.ListN.{length, take, length-append, length-take}
+use Rattle.std.specs.Prelude.{Option, Some, None}
 use Rattle.numbers.specs.Choice.{first}
-use Rattle.sdo.specs.Frames.{reply_to}
-use Rattle.sdo.specs.declared.types.Answer.{Answer}
-use Rattle.sdo.specs.declared.types.Answer.TheVariants.{Silent, Aborted, Value, Written}
-use Rattle.printer.specs.declared.reading.Verb.{Verb}
-use Rattle.printer.specs.declared.reading.Verb.TheVariants.{Frame, Tick, Unknown}
+use Rattle.sdo.specs.Frames.{Answer, reply_to}
+use Rattle.printer.specs.declared.reading.Request.{Request}
+use Rattle.printer.specs.declared.reading.Request.TheVariants.{Frame, Tick}
 use Rattle.printer.specs.Reading.{asked}
 use Rattle.printer.specs.Printing.{hex2, each, decimal, ended, reply_line, tick_line, silent_line, unknown_line}
 use Rattle.printer.proofs.answer_lines.Lines.{command_put, tick_put}
@@ -46,20 +45,18 @@ tick_most commands register four =
 
 shown_most : (frame : List ℕ) (a : Answer) → length (shown frame a) ≤ 33
 unfolding shown silent_line ended
-shown_most frame Silent = lit≤ tt
-shown_most frame (Aborted a) = reply_most (reply_to frame (Aborted a))
-shown_most frame (Value word size) = reply_most (reply_to frame (Value word size))
-shown_most frame (Written slot word) = reply_most (reply_to frame (Written slot word))
+shown_most frame None = lit≤ tt
+shown_most frame (Some done) = reply_most (reply_to frame (Some done))
 
-done_most : (verb : Verb) (frame : List ℕ) (samples : List ℤ) (unit : List ℕ) → length (done verb frame samples unit).printed ≤ 33
+done_most : (asked : Option Request) (unit : List ℕ) → length (done asked unit).printed ≤ 33
 unfolding done served sampled unheard state_line unknown_line ended
-done_most Frame frame samples unit = shown_most frame (decided unit frame)
-done_most Tick frame samples unit = tick_most _ _ refl
-done_most Unknown frame samples unit = lit≤ tt
+done_most (Some (Frame frame)) unit = shown_most frame (decided unit frame)
+done_most (Some (Tick samples)) unit = tick_most _ _ refl
+done_most None unit = lit≤ tt
 
 pub told_most : (line unit : List ℕ) → length (told line unit).printed ≤ 33
 unfolding told first said unheard done
 told_most line unit = by (leb (length line) 64) where
   by : (t : Bool) → length (first t (said line unit) (unheard unit)).printed ≤ 33
-  by true = done_most (asked line).verb (asked line).frame (asked line).samples unit
-  by false = done_most Unknown line [] unit
+  by true = done_most (asked line) unit
+  by false = done_most None unit

@@ -1,6 +1,6 @@
 -- Sixteen digits, two a turn.
 -- Assumes nothing.
-use Prim.Native.Nat.{◌≤◌, ◌-◌, ◌*◌}
+use Prim.Native.Nat.{◌*◌}
 use mathlib.Core.Path.{◌≡◌}
 use lib.ListN.{length, take, drop}
 use Rattle.printer.specs.Reading.{fields, asked_frame}
@@ -8,7 +8,4 @@ use Rattle.printer.proofs.Hexes.{framed_from}
 use Rattle.printer.proofs.reading.frame.Given as goal
 
 abbrev pub invariant-loop-k : goal.invariant-loop-k
-invariant-loop-k l = (l.k ≤ 8) × ((length l.bytes ≡ 8) × (asked_frame (fields l.digits) ≡ framed_from (take l.k l.bytes) (drop (2 * l.k) l.digits)))
-
-abbrev pub decreases-loop-k : goal.decreases-loop-k
-decreases-loop-k l = 8 - l.k
+invariant-loop-k l = (length l.bytes ≡ 8) × (asked_frame (fields l.digits) ≡ framed_from (take l.k l.bytes) (drop (2 * l.k) l.digits))

@@ -1,66 +1,46 @@
--- Four fields, one a turn.
+-- A field a turn: the parts that are yielded are the line's fields.
 -- Assumes nothing.
-use Prim.Native.Nat.{◌<◌}
-use mathlib.Core.List.{append-nil}
-use mathlib.Core.Path.{◌≡◌, refl, sym, ap, ◌∙◌}
+use mathlib.Core.Path.{refl, sym, ◌∙◌}
 use native.Mathlib.Omega.{arith}
-use native.Mathlib.Numerals.{add-one}
-use borrow.Author.Rules.{rules}
-use lib.ListN.{length, take, drop, length-set}
-use lib.Seq.{take_all, take-suc-set, length-take-le}
-use mir.Syntax.{w16}
-use mir.Val.{SFits}
 use mir.Facts.{to_z-of_z}
-use Rattle.printer.specs.Reading.{tick_of}
-use Rattle.printer.specs.Steps.{following}
-use Rattle.printer.proofs.Fields.{tick_start, tick_step, tick_bad, tick_more, tick_done}
+use mir.Syntax.{w16}
+use Rattle.std.proofs.Common.{rules, tests}
+use Rattle.std.proofs.lemmas.Iterator.Consumers.{YieldsList-turn, YieldsList-end}
+use Rattle.std.proofs.lemmas.List.{length_push}
+use Rattle.printer.specs.Reading.{unknown, tick_of, fields}
+use Rattle.printer.proofs.Cutting.{road}
+use Rattle.printer.proofs.Fields.{begun, too_many, no_decimal, one_more, too_few, complete}
 use Rattle.printer.proofs.reading.tick.Goals as goal
 
-pub loop-k-init : goal.loop-k-init
-loop-k-init c = (omega arith, (refl, tick_start (following (drop 1 c.args.line.now))))
+pub loop-field-init : goal.loop-field-init
+loop-field-init c = begun _ (fields c.args.rest.now) refl
 
-pub read_field-requires : goal.read_field-requires
-read_field-requires c = tt
-
-pub nothing-requires : goal.nothing-requires
-nothing-requires c = tt
+pub returns-then-count-eq4 : goal.returns-then-count-eq4
+unfolding unknown
+returns-then-count-eq4 c =
+    let t = YieldsList-turn (road _ c.args.rest.now (cc) (cc) (cc) (λ x r q k. search (rules, tests))) c.loop-field.yielded _ c.loop-field.yielded_by _ _ c.in-Some.field c.in-Some.is c.next.ensures.steps in
+    sym (too_many c.loop-field.invariant _ t c.if-count-eq4.true)
 
 pub returns-in_default : goal.returns-in_default
+unfolding unknown
 returns-in_default c =
-    let m = c.loop-k in
-    let done = take m.k m.samples in
-    let few : length done < 4 = omega (arith, length-take-le m.k m.samples (omega arith)) in
-    c.nothing.ensures
-    ∙ sym (m.invariant.1.1 ∙ tick_bad c.args.line.now m.space done few (sym c.read_field.ensures ∙ c.in_default.is))
+    let t = YieldsList-turn (road _ c.args.rest.now (cc) (cc) (cc) (λ x r q k. search (rules, tests))) c.loop-field.yielded _ c.loop-field.yielded_by _ _ c.in-Some.field c.in-Some.is c.next.ensures.steps in
+    sym (no_decimal c.loop-field.invariant _ t (sym c.read_number.ensures ∙ c.in_default.is))
 
-pub loop-k-preserved : goal.loop-k-preserved
-loop-k-preserved c =
-    let m = c.loop-k in
-    let fits : SFits w16 c.in-Is.v = search rules in (
-      omega arith,
-      (
-        simp length-set m.invariant.1.0,
-        m.invariant.1.1
-            ∙ tick_step c.args.line.now m.space (take m.k m.samples) c.in-Is.v c.in-Is.end (sym c.read_field.ensures ∙ c.in-Is.is)
-            ∙ rw (add-one m.k, take-suc-set m.samples m.k _ (omega arith), to_z-of_z fits),
-      ),
-    )
+pub loop-field-preserved : goal.loop-field-preserved
+loop-field-preserved c =
+    let t = YieldsList-turn (road _ c.args.rest.now (cc) (cc) (cc) (λ x r q k. search (rules, tests))) c.loop-field.yielded _ c.loop-field.yielded_by _ _ c.in-Some.field c.in-Some.is c.next.ensures.steps in
+    rw (length_push c.loop-field.yielded c.in-Some.field, to_z-of_z {w = w16} {z = c.in-Some-read_number.v} (search rules))
+    (one_more c.loop-field.invariant _ t c.in-Some-read_number.v (sym c.read_number.ensures ∙ c.in-Some-read_number.is) (omega (arith, c.loop-field.invariant.few)))
 
-pub nothing-requires-then-space-line : goal.nothing-requires-then-space-line
-nothing-requires-then-space-line c = tt
-
-pub returns-then-space-line : goal.returns-then-space-line
-returns-then-space-line c =
-    let m = c.loop-k in
-    let done = take m.k m.samples in
-    let four : length done ≡ 4 = omega (arith, length-take-le m.k m.samples (omega arith)) in
-    c.nothing-then-space-line.ensures ∙ sym (m.invariant.1.1 ∙ tick_more c.args.line.now m.space done four c.if-space-line.true)
+pub returns-then-count-lt4 : goal.returns-then-count-lt4
+unfolding unknown
+returns-then-count-lt4 c =
+    let t = YieldsList-end (road _ c.args.rest.now (cc) (cc) (cc) (λ x r q k. search (rules, tests))) c.loop-field.yielded _ c.loop-field.yielded_by _ _ c.in-None.is c.next.ensures.steps in
+    sym (too_few c.loop-field.invariant t.1 c.if-count-lt4.true)
 
 pub returns : goal.returns
 unfolding tick_of
 returns c =
-    let m = c.loop-k in
-    let done = take m.k m.samples in
-    let four : length done ≡ 4 = omega (arith, length-take-le m.k m.samples (omega arith)) in
-    let all = append-nil done ∙ take_all m.k m.samples (omega arith) in
-    sym (m.invariant.1.1 ∙ tick_done c.args.line.now m.space done four c.if-space-line.false ∙ ap tick_of all)
+    let t = YieldsList-end (road _ c.args.rest.now (cc) (cc) (cc) (λ x r q k. search (rules, tests))) c.loop-field.yielded _ c.loop-field.yielded_by _ _ c.in-None.is c.next.ensures.steps in
+    sym (complete c.loop-field.invariant t.1 c.if-count-lt4.false)

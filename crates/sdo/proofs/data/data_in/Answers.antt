@@ -5,11 +5,11 @@ use native.Mathlib.Omega.{arith}
 use Rattle.sdo.proofs.FrameLaws.{data_1, data_2, data_4}
 use Rattle.sdo.proofs.data.data_in.Goals as goal
 
-pub returns-then-size-eq2 : goal.returns-then-size-eq2
-returns-then-size-eq2 c = c.four.ensures ∙ data_2 _ (omega arith) _ (omega arith)
+pub returns-in-1 : goal.returns-in-1
+returns-in-1 c = c.four.ensures ∙ data_1 _ (omega arith) _ (omega arith)
 
-pub returns-then-size-eq1 : goal.returns-then-size-eq1
-returns-then-size-eq1 c = c.four-then-size-eq1.ensures ∙ data_1 _ (omega arith) _ (omega arith)
+pub returns-in-2 : goal.returns-in-2
+returns-in-2 c = c.four-in-2.ensures ∙ data_2 _ (omega arith) _ (omega arith)
 
-pub returns : goal.returns
-returns c = c.four-2.ensures ∙ data_4 _ (omega arith) _ (omega arith)
+pub returns-in_default : goal.returns-in_default
+returns-in_default c = c.four-in_default.ensures ∙ data_4 _ (omega arith) _ (omega arith)

@@ -1,17 +1,11 @@
--- `frames::deciding::decide` meets its contract: each return is the row that its tests choose (`AnswerLaws`).
+-- `deciding::decide` meets its contract: what is heard is obeyed (`AnswerLaws`).
 -- Assumes nothing.
 use mathlib.Core.Path.{◌∙◌}
-use Rattle.sdo.proofs.AnswerLaws.{not_eight, no_room, an_abort, spoken}
+use Rattle.sdo.proofs.AnswerLaws.{no_answer, an_answer}
 use Rattle.sdo.proofs.deciding.decide.Goals as goal
 
-pub returns-then-frame-ne8 : goal.returns-then-frame-ne8
-returns-then-frame-ne8 c = not_eight _ _ _ c.if-frame-ne8.true
-
-pub returns-then-room-lt8 : goal.returns-then-room-lt8
-returns-then-room-lt8 c = no_room _ _ _ c.if-frame-ne8.false c.if-room-lt8.true
-
-pub returns-then-frame : goal.returns-then-frame
-returns-then-frame c = an_abort _ _ _ c.if-frame-ne8.false c.if-room-lt8.false c.if-frame.true
+pub returns-in_err-frame : goal.returns-in_err-frame
+returns-in_err-frame c = c.from_residual.ensures ∙ no_answer _ _ _ c.in_err-frame.ensures
 
 pub returns : goal.returns
-returns c = c.obey.ensures ∙ spoken _ _ _ c.if-frame-ne8.false c.if-room-lt8.false c.if-frame.false
+returns c = let f = c.in_ok-frame.ensures in an_answer _ _ _ f.0 _ (rw f.1 at c.obey.ensures)

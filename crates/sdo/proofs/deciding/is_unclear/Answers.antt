@@ -9,6 +9,6 @@ pub returns-then-slot-eq-ERRORS_KEPT : goal.returns-then-slot-eq-ERRORS_KEPT
 unfolding unclear slot_of
 returns-then-slot-eq-ERRORS_KEPT c = rw c.if-slot-eq-ERRORS_KEPT.true
 
-pub returns : goal.returns
+pub returns-else-slot-eq-ERRORS_KEPT : goal.returns-else-slot-eq-ERRORS_KEPT
 unfolding unclear slot_of
-returns c = rw (ne_eqb _ _ c.if-slot-eq-ERRORS_KEPT.false)
+returns-else-slot-eq-ERRORS_KEPT c = rw (ne_eqb _ _ c.if-slot-eq-ERRORS_KEPT.false)

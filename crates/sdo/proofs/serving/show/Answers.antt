@@ -1,20 +1,19 @@
--- `sdo::serving::show` meets its contract: the size chooses the head and cuts the value (`ReplyLaws`).
+-- `serving::show` meets its contract: the size chooses the head and cuts the value.
 -- Assumes nothing.
-use mathlib.Core.Path.{◌∙◌}
+use native.Mathlib.Omega.{arith}
+use borrow.Author.Tests.{ne_eqb}
 use Rattle.numbers.specs.Choice.{first}
-use Rattle.numbers.proofs.Tests.{tests}
 use Rattle.sdo.specs.Frames.{read_command, cut}
-use Rattle.sdo.proofs.ReplyLaws.{shown}
 use Rattle.sdo.proofs.serving.show.Goals as goal
 
-pub returns-then-size-eq4 : goal.returns-then-size-eq4
+pub returns-in-4 : goal.returns-in-4
 unfolding read_command cut first
-returns-then-size-eq4 c = let a = c.args in c.respond.ensures ∙ shown a.out.now _ a.word a.size (search tests) (search tests)
+returns-in-4 c = rw c.in-4.is c.respond.ensures
 
-pub returns-then-size-eq2 : goal.returns-then-size-eq2
+pub returns-in-2 : goal.returns-in-2
 unfolding read_command cut first
-returns-then-size-eq2 c = let a = c.args in c.respond-then-size-eq2.ensures ∙ shown a.out.now _ a.word a.size (search tests) (search tests)
+returns-in-2 c = rw c.in-2.is c.respond-in-2.ensures
 
-pub returns : goal.returns
+pub returns-in_default : goal.returns-in_default
 unfolding read_command cut first
-returns c = let a = c.args in c.respond-2.ensures ∙ shown a.out.now _ a.word a.size (search tests) (search tests)
+returns-in_default c = rw (ne_eqb c.args.size 4 (λ e. omega arith), ne_eqb c.args.size 2 (λ e. omega arith)) c.respond-in_default.ensures

@@ -4,51 +4,48 @@ use mathlib.Core.Bool.{true, false}
 use mathlib.Core.Path.{◌≡◌, ap, ◌∙◌}
 use native.Mathlib.Omega.{arith}
 use native.Mathlib.Numerals.{add-one}
-use lib.IntN.{pos}
+use Prim.Native.Nat.{ℕ}
+use lib.IntN.{ℤ, pos, nat_abs}
+use mir.Syntax.{w16}
+use mir.Val.{SFits, to_z, of_z}
 use lib.ListN.{length, length-set}
 use lib.Seq.{length-sets}
-use mir.Facts.{to_z-of_z, sfits_widen}
+use mir.Facts.{to_z-of_z}
 use Rattle.numbers.specs.Order.{below}
 use Rattle.numbers.proofs.Tests.{lt_yes16, lt_no16}
-use Rattle.printer.proofs.answer_lines.Signs.{size_small, plain_decimal, plain_sign, minus_decimal, turned, turned_fits, turned_back}
+use Rattle.printer.proofs.answer_lines.Signs.{size_small, plain_decimal, minus_decimal}
 use Rattle.printer.proofs.answer_lines.put.put_decimal.Goals as goal
-use Rattle.printer.proofs.answer_lines.put.put_decimal.Goals.{Else-v-lt0, Then-v-lt0}
 
-below_zero : (c : Then-v-lt0) → below c.before.before.args.v (pos 0) ≡ true
-below_zero c = lt_yes16 c.before.before.args.v (pos 0) c.before.before.ranges.v (record { sfits = omega arith }) c.if-v-lt0.true
-
-not_below : (c : Else-v-lt0) → below c.before.before.args.v (pos 0) ≡ false
-not_below c = lt_no16 c.before.before.args.v (pos 0) c.before.before.ranges.v (record { sfits = omega arith }) c.if-v-lt0.false
-
-pub overflow_cast-v : goal.overflow_cast-v
-overflow_cast-v c = rw (to_z-of_z c.ranges.v) (sfits_widen tt c.ranges.v)
-
-pub overflow_sub-v : goal.overflow_sub-v
-overflow_sub-v c = rw (turned c.args.v c.ranges.v (below_zero (goal.at.overflow_sub-v c).Then-v-lt0)) (turned_fits c.args.v c.ranges.v)
-
-pub overflow_cast-v-then-v-lt0 : goal.overflow_cast-v-then-v-lt0
-overflow_cast-v-then-v-lt0 c = rw (turned_back c.args.v c.ranges.v (below_zero (goal.at.overflow_cast-v-then-v-lt0 c).Then-v-lt0)) (tt, record { fits = omega (arith, size_small c.args.v c.ranges.v) })
+-- what is put has the number's size
+size : {v : ℤ} {n m : ℕ} → SFits w16 v → n ≡ m → m ≡ nat_abs (to_z w16 (of_z w16 v)) → n ≡ nat_abs v
+size f e q = e ∙ q ∙ ap nat_abs (to_z-of_z f)
 
 pub put_digits-requires : goal.put_digits-requires
-put_digits-requires c = rw (turned_back c.args.v c.ranges.v (below_zero (goal.at.put_digits-requires c).Then-v-lt0)) (size_small c.args.v c.ranges.v, simp length-set (omega arith))
+put_digits-requires c =
+    let v = c.args.v in
+    let n = size c.ranges.v c.from-size.ensures c.unsigned_abs.ensures.value in
+    (omega (arith, n, size_small v c.ranges.v), simp length-set (omega arith))
 
 pub shape_of-out-then-v-lt0 : goal.shape_of-out-then-v-lt0
 shape_of-out-then-v-lt0 c = ap length c.put_digits.ensures.stored ∙ simp (length-sets, length-set)
 
 pub returns-then-v-lt0 : goal.returns-then-v-lt0
 returns-then-v-lt0 c =
-    let s = c in
-    let less = (below_zero (goal.at.returns-then-v-lt0 c).Then-v-lt0) in
-    let e = rw (turned_back s.args.v s.ranges.v less) at c.put_digits.ensures in
-    rw (minus_decimal s.args.v less) (record { stored = rw add-one at e.stored; place = omega (arith, e.place) })
-
-pub overflow_cast-v-2 : goal.overflow_cast-v-2
-overflow_cast-v-2 c = rw (to_z-of_z c.ranges.v) (plain_sign c.args.v (not_below (goal.at.overflow_cast-v-2 c).Else-v-lt0), record { fits = omega (arith, size_small c.args.v c.ranges.v) })
+    let v = c.args.v in
+    let n = size c.ranges.v c.from-size.ensures c.unsigned_abs.ensures.value in
+    let less : below v (pos 0) ≡ true = lt_yes16 v (pos 0) c.ranges.v (record { sfits = omega arith }) c.if-v-lt0.true in
+    let e = rw n at c.put_digits.ensures in
+    rw (minus_decimal v less) (record { stored = rw add-one at e.stored; place = omega (arith, e.place) })
 
 pub put_digits-requires-2 : goal.put_digits-requires-2
-put_digits-requires-2 c = rw (to_z-of_z c.ranges.v) (size_small c.args.v c.ranges.v, omega arith)
+put_digits-requires-2 c =
+    let v = c.args.v in
+    let n = size c.ranges.v c.from-size.ensures c.unsigned_abs.ensures.value in
+    (omega (arith, n, size_small v c.ranges.v), omega arith)
 
 pub returns : goal.returns
 returns c =
-    let s = c in
-    rw (plain_decimal s.args.v (not_below (goal.at.returns c).Else-v-lt0)) (rw (to_z-of_z s.ranges.v) at c.put_digits-2.ensures)
+    let v = c.args.v in
+    let n = size c.ranges.v c.from-size.ensures c.unsigned_abs.ensures.value in
+    let more : below v (pos 0) ≡ false = lt_no16 v (pos 0) c.ranges.v (record { sfits = omega arith }) c.if-v-lt0.false in
+    rw (plain_decimal v more) (rw n at c.put_digits-2.ensures)

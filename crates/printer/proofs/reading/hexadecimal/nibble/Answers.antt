@@ -1,4 +1,4 @@
--- A hex digit's value, told by comparisons.
+-- A hex digit's value, told by its range.
 -- Assumes nothing.
 use native.Mathlib.Omega.{arith}
 use borrow.Author.Tests.{le-leb, lt-leb}
@@ -7,22 +7,22 @@ use Rattle.printer.specs.Reading.{is_hex, hex_value}
 use Rattle.printer.specs.Steps.{nibble_of}
 use Rattle.printer.proofs.reading.hexadecimal.nibble.Goals as goal
 
-pub returns-then-b-lt48 : goal.returns-then-b-lt48
+pub returns-in-48-to-57 : goal.returns-in-48-to-57
 unfolding nibble_of is_hex hex_value first
-returns-then-b-lt48 c = let b = c.args.b in rw (lt-leb 0x30 b (omega arith), lt-leb 0x41 b (omega arith))
+returns-in-48-to-57 c = let b = c.args.b in rw (le-leb 0x30 b (omega arith), le-leb b 0x39 (omega arith))
 
-pub returns-then-b-le57 : goal.returns-then-b-le57
+pub returns-in-65-to-70 : goal.returns-in-65-to-70
 unfolding nibble_of is_hex hex_value first
-returns-then-b-le57 c = let b = c.args.b in rw (le-leb 0x30 b (omega arith), le-leb b 0x39 (omega arith))
+returns-in-65-to-70 c = let b = c.args.b in rw (le-leb 0x30 b (omega arith), lt-leb b 0x39 (omega arith), le-leb 0x41 b (omega arith), le-leb b 0x46 (omega arith))
 
-pub returns-then-b-lt65 : goal.returns-then-b-lt65
+pub returns-in_default : goal.returns-in_default
 unfolding nibble_of is_hex hex_value first
-returns-then-b-lt65 c = let b = c.args.b in rw (le-leb 0x30 b (omega arith), lt-leb b 0x39 (omega arith), lt-leb 0x41 b (omega arith))
+returns-in_default c = let b = c.args.b in rw (lt-leb 0x30 b (omega arith), lt-leb 0x41 b (omega arith))
 
-pub returns-then-b-le70 : goal.returns-then-b-le70
+pub returns-in_default-2 : goal.returns-in_default-2
 unfolding nibble_of is_hex hex_value first
-returns-then-b-le70 c = let b = c.args.b in rw (le-leb 0x30 b (omega arith), lt-leb b 0x39 (omega arith), le-leb 0x41 b (omega arith), le-leb b 0x46 (omega arith)) (omega arith)
+returns-in_default-2 c = let b = c.args.b in rw (le-leb 0x30 b (omega arith), lt-leb b 0x39 (omega arith), lt-leb 0x41 b (omega arith))
 
-pub returns : goal.returns
+pub returns-in_default-3 : goal.returns-in_default-3
 unfolding nibble_of is_hex hex_value first
-returns c = let b = c.args.b in rw (le-leb 0x30 b (omega arith), lt-leb b 0x39 (omega arith), le-leb 0x41 b (omega arith), lt-leb b 0x46 (omega arith))
+returns-in_default-3 c = let b = c.args.b in rw (le-leb 0x30 b (omega arith), le-leb 0x41 b (omega arith), lt-leb b 0x39 (omega arith), lt-leb b 0x46 (omega arith))
