@@ -9,15 +9,10 @@ use mir.Syntax.{w16}
 
 pub returns : goal.returns
 returns c =
-    let fourth = c in
-    let third = fourth in
-    let second = third in
-    let first = second in
-    let told = first in
     prints
-    (sent_line_lem _ _ _ told.valve_commands.ensures told.valve_error_register-register.ensures
-    (to_z-of_z {w = w16} (sfits_of first.show_tick-arg-1.given))
-    (to_z-of_z {w = w16} (sfits_of second.show_tick-arg-2-1.given))
-    (to_z-of_z {w = w16} (sfits_of third.show_tick-arg-3-1.given))
-    (to_z-of_z {w = w16} (sfits_of fourth.show_tick-arg-4-1.given)))
+    (sent_line_lem _ _ _ c.valve_commands.ensures c.valve_error_register-register.ensures
+    (to_z-of_z {w = w16} (sfits_of c.show_tick-arg-1.given))
+    (to_z-of_z {w = w16} (sfits_of c.show_tick-arg-2-1.given))
+    (to_z-of_z {w = w16} (sfits_of c.show_tick-arg-3-1.given))
+    (to_z-of_z {w = w16} (sfits_of c.show_tick-arg-4-1.given)))
     c.show_tick.ensures
