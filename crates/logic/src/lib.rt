@@ -6,7 +6,8 @@ pub mod gathering;
 pub mod turns;
 
 ghost use Rattle.std.specs.Prelude.{◌≡◌};
-ghost use Rattle.logic.specs.Logic.{compares, compared, verdict};
+ghost use Rattle.logic.specs.Logic.{compared, verdict};
+ghost use Rattle.logic.specs.Ordered.{ordered};
 ghost use Rattle.signals.specs.Signal.{as_real};
 
 use signals::reading::{absent, as_real};
@@ -21,8 +22,10 @@ pub enum Verdict {
     NotAvailable,
 }
 
-fn compare(comparison: u8, x: f32, y: f32) -> bool
-    ensures { result ≡ compares comparison x y }
+// Of REAL32, and of whole numbers in the same digits.
+#[tactic(auto, unfolding(crate::specs::Ordered::ordered, numbers::specs::Choice::first))]
+fn compare<T: PartialOrd + Copy>(comparison: u8, x: T, y: T) -> bool
+    ensures { result ≡ ordered T.eq T.partial_cmp comparison x y }
 {
     match comparison {
         0 => x == y,

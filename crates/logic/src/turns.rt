@@ -110,15 +110,30 @@ fn holds_at(logic: Row<'_, 2>, t: usize) -> bool
         return true;
     }
     let at = CONDITION + row + 15 * t;
-    let one = gather(operator, 0, false, counts_at(operator, Condition { unit, at }));
+    let one = gather(
+        operator,
+        0,
+        false,
+        counts_at(operator, Condition { unit, at }),
+    );
     if settles(operator, one) {
         return one;
     }
-    let two = gather(operator, 1, one, counts_at(operator, Condition { unit, at: at + 5 }));
+    let two = gather(
+        operator,
+        1,
+        one,
+        counts_at(operator, Condition { unit, at: at + 5 }),
+    );
     if settles(operator, two) {
         return two;
     }
-    gather(operator, 2, two, counts_at(operator, Condition { unit, at: at + 10 }))
+    gather(
+        operator,
+        2,
+        two,
+        counts_at(operator, Condition { unit, at: at + 10 }),
+    )
 }
 
 // The first that holds is selected, so what comes after it is not looked at.

@@ -79,7 +79,10 @@ pub fn maths(unit: &mut Unit)
     ensures { unit.new ≡ each 4 math_turn unit.old }
 {
     for k in 0..4_u32 {
-        let signal = signal_of(Row { unit, k: k as usize });
+        let signal = signal_of(Row {
+            unit,
+            k: k as usize,
+        });
         unit[MATH_VALUE + k as usize] = number_of(as_real(signal));
         lay(unit, 4 + k as usize, signal);
     }

@@ -100,15 +100,7 @@ pub fn ramp(output: Row<'_, 4>, v: i16) -> Motion
         return rest(to);
     }
     let ticks = count_on(output, rising, used);
-    advance(
-        s,
-        ticks,
-        begin(output, ticks, from),
-        from,
-        to,
-        rising,
-        used,
-    )
+    advance(s, ticks, begin(output, ticks, from), from, to, rising, used)
 }
 
 // What a count began with is laid down by its first tick.

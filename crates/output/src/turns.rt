@@ -70,6 +70,13 @@ pub fn outputs(unit: &mut Unit)
     ensures { unit.new ≡ each 4 output_turn unit.old }
 {
     for k in 0..4_u32 {
-        remember(unit, k as usize, drive(Row { unit, k: k as usize }));
+        remember(
+            unit,
+            k as usize,
+            drive(Row {
+                unit,
+                k: k as usize,
+            }),
+        );
     }
 }

@@ -53,7 +53,10 @@ pub fn tables(unit: &mut Unit)
     ensures { unit.new ≡ each 6 table_turn unit.old }
 {
     for k in 0..6_u32 {
-        let signal = signal_of(Row { unit, k: k as usize });
+        let signal = signal_of(Row {
+            unit,
+            k: k as usize,
+        });
         unit[TABLE_VALUE + k as usize] = pattern(as_whole(signal));
         lay(unit, 8 + k as usize, signal);
     }
