@@ -9,13 +9,10 @@ mod rows;
 mod showing;
 mod words;
 
-ghost use Rattle.std.specs.Prelude.{◌≡◌};
-ghost use Rattle.records.specs.Walk.{number};
-
 use buffer::ROOM;
 use files::{argument, fetch, keep};
 use lists::make_list;
-use lists::types::Made;
+use lists::types::Unmade;
 use octets::little::four_at;
 use records::types::Refusal;
 use showing::show;
@@ -25,22 +22,6 @@ use terminal::arguments::is_given;
 // What was asked for is not done; why is told already, where it can be.
 #[derive(Clone, Copy)]
 pub struct Undone;
-
-// The paper's number.
-fn number_of(why: Refusal) -> u8
-    ensures { result ≡ number why }
-{
-    match why {
-        Refusal::EndedEarly => 1,
-        Refusal::WrongCount => 2,
-        Refusal::NotNext => 3,
-        Refusal::WrongSize => 4,
-        Refusal::OutOfRange => 5,
-        Refusal::OutOfOrder => 6,
-        Refusal::LeftOver => 7,
-        Refusal::NoRoom => 8,
-    }
-}
 
 fn words_of(why: Refusal) -> &'static str {
     match why {
@@ -55,8 +36,14 @@ fn words_of(why: Refusal) -> &'static str {
     }
 }
 
-fn refuse(rt: &impl Print, what: &str, why: Refusal) -> Undone {
-    let number = number_of(why);
+// The refusal by the paper's number, and in words.
+fn refuse(rt: &impl Print, unmade: Unmade) -> Undone {
+    let (what, why) = match unmade {
+        Unmade::Current(why) => ("current image", why),
+        Unmade::Wanted(why) => ("wanted image", why),
+        Unmade::NoRoom => ("list", Refusal::NoRoom),
+    };
+    let number = why.number();
     let words = words_of(why);
     let _ = println!(rt; "{what} refused, {number}: {words}");
     Undone
@@ -66,16 +53,6 @@ fn count(rt: &impl Print, list: &[u8]) -> Result<(), Undone> {
     let records = four_at(list, 0);
     let bytes = list.len();
     println!(rt; "{records} records, {bytes} bytes").map_err(|_| Undone)
-}
-
-// How long the list is; where there is none, why is told.
-fn length_of(rt: &impl Print, made: Made) -> Result<usize, Undone> {
-    match made {
-        Made::Done(long) => Ok(long),
-        Made::Current(why) => Err(refuse(rt, "current image", why)),
-        Made::Wanted(why) => Err(refuse(rt, "wanted image", why)),
-        Made::NoRoom => Err(refuse(rt, "list", Refusal::NoRoom)),
-    }
 }
 
 // The program's own name is argument 0.
@@ -97,7 +74,8 @@ fn restore(rt: &HostRuntime) -> Result<(), Undone> {
     let current = fetch(rt, first)?;
     let wanted = fetch(rt, second)?;
     let mut room = [0u8; ROOM];
-    let long = length_of(rt, make_list(current.bytes(), wanted.bytes(), &mut room))?;
+    let long = make_list(current.bytes(), wanted.bytes(), &mut room)
+        .map_err(|unmade| refuse(rt, unmade))?;
     let list = room.get(..long).ok_or(Undone)?;
     if shown {
         return show(rt, current.bytes(), list);
