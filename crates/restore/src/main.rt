@@ -74,8 +74,9 @@ fn restore(rt: &HostRuntime) -> Result<(), Undone> {
     let current = fetch(rt, first)?;
     let wanted = fetch(rt, second)?;
     let mut room = [0u8; ROOM];
-    let long = make_list(current.bytes(), wanted.bytes(), &mut room)
-        .map_err(|unmade| refuse(rt, unmade))?;
+    let long = make_list(current.bytes(), wanted.bytes(), &mut room).map_err(|unmade| refuse(
+        rt, unmade,
+    ))?;
     let list = room.get(..long).ok_or(Undone)?;
     if shown {
         return show(rt, current.bytes(), list);
