@@ -36,7 +36,13 @@ fn words_of(why: Refusal) -> &'static str {
     }
 }
 
-fn refuse(rt: &impl Print, what: &str, why: Refusal) -> Undone {
+// The refusal by the paper's number, and in words.
+fn refuse(rt: &impl Print, unmade: Unmade) -> Undone {
+    let (what, why) = match unmade {
+        Unmade::Current(why) => ("current image", why),
+        Unmade::Wanted(why) => ("wanted image", why),
+        Unmade::NoRoom => ("list", Refusal::NoRoom),
+    };
     let number = why.number();
     let words = words_of(why);
     let _ = println!(rt; "{what} refused, {number}: {words}");
@@ -47,15 +53,6 @@ fn count(rt: &impl Print, list: &[u8]) -> Result<(), Undone> {
     let records = four_at(list, 0);
     let bytes = list.len();
     println!(rt; "{records} records, {bytes} bytes").map_err(|_| Undone)
-}
-
-// Why there is no list.
-fn refuse_list(rt: &impl Print, why: Unmade) -> Undone {
-    match why {
-        Unmade::Current(why) => refuse(rt, "current image", why),
-        Unmade::Wanted(why) => refuse(rt, "wanted image", why),
-        Unmade::NoRoom => refuse(rt, "list", Refusal::NoRoom),
-    }
 }
 
 // The program's own name is argument 0.
@@ -77,8 +74,9 @@ fn restore(rt: &HostRuntime) -> Result<(), Undone> {
     let current = fetch(rt, first)?;
     let wanted = fetch(rt, second)?;
     let mut room = [0u8; ROOM];
-    let made = make_list(current.bytes(), wanted.bytes(), &mut room);
-    let long = made.map_err(|why| refuse_list(rt, why))?;
+    let long = make_list(current.bytes(), wanted.bytes(), &mut room).map_err(|unmade| refuse(
+        rt, unmade,
+    ))?;
     let list = room.get(..long).ok_or(Undone)?;
     if shown {
         return show(rt, current.bytes(), list);
