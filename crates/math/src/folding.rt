@@ -7,7 +7,7 @@ ghost use Rattle.math.specs.Math.{scaled, started, joined, ended, broken};
 ghost use Rattle.math.specs.Fold as spec;
 
 use crate::{Ends, Fold, Operand, apply};
-use numbers::limits::limit_real;
+use numbers::limits::limit;
 use signals::reading::{as_real, failed};
 use signals::signal::Signal;
 
@@ -17,7 +17,7 @@ fn scale(v: f32, fold: Fold) -> f32
 {
     let from = fold.from as f32;
     let span = fold.to as f32 - from;
-    let part = limit_real((v - from) / span, 0.0, 1.0);
+    let part = limit((v - from) / span, 0.0, 1.0);
     part * (fold.gain as f32 / 100.0)
 }
 
@@ -79,6 +79,6 @@ pub fn finish(fold: Fold, ends: Ends) -> Signal
     }
     let low = ends.from as f32;
     let high = ends.to as f32;
-    let part = limit_real(fold.run, 0.0, 1.0);
-    Signal::Real(limit_real(part * (high - low) + low, low, high))
+    let part = limit(fold.run, 0.0, 1.0);
+    Signal::Real(limit(part * (high - low) + low, low, high))
 }

@@ -10,7 +10,7 @@ ghost use Rattle.std.specs.Float.Ieee.{eq};
 ghost use Rattle.math.specs.Math.{zero, operated, operated_on};
 ghost use Rattle.math.specs.Fold as spec;
 
-use numbers::limits::limit_real;
+use numbers::limits::limit;
 use signals::signal::Signal;
 
 // An input: its signal, scaling 1 and 2, and its gain in per cent.
@@ -62,22 +62,14 @@ fn larger(run: f32, x: f32) -> f32
 fn operate(operator: u8, run: f32, x: f32) -> f32
     ensures { result ≡ operated operator run x }
 {
-    if operator == 0 {
-        return run + x;
+    match operator {
+        0 => run + x,
+        1 => run - x,
+        2 => run * x,
+        3 => run / x,
+        4 => smaller(run, x),
+        _ => larger(run, x),
     }
-    if operator == 1 {
-        return run - x;
-    }
-    if operator == 2 {
-        return run * x;
-    }
-    if operator == 3 {
-        return run / x;
-    }
-    if operator == 4 {
-        return smaller(run, x);
-    }
-    larger(run, x)
 }
 
 // A zero of either sign: `==` does not see the sign.
@@ -102,7 +94,7 @@ pub fn apply(fold: Fold, operator: u8, x: f32) -> Fold
         next.failed = true;
         return next;
     }
-    let run = limit_real(operate(operator, fold.run, x), -1.0, 1.0);
+    let run = limit(operate(operator, fold.run, x), -1.0, 1.0);
     next.run = run;
     next
 }

@@ -4,17 +4,17 @@ ghost use Rattle.std.specs.Prelude.{◌≡◌, ◌+ℤ◌, ◌-ℤ◌};
 pub fn wide(v: i16) -> i32
     ensures { result ≡ v }
 {
-    v as i32
+    i32::from(v)
 }
 
 pub fn sum(a: i16, b: i16) -> i32
     ensures { result ≡ a +ℤ b }
 {
-    wide(a) + wide(b)
+    i32::from(a) + i32::from(b)
 }
 
 pub fn difference(a: i16, b: i16) -> i32
     ensures { result ≡ a -ℤ b }
 {
-    wide(a) - wide(b)
+    i32::from(a) - i32::from(b)
 }

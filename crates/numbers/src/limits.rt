@@ -1,25 +1,16 @@
 // A limit replaces only a value beyond it, so -0 stays.
 ghost use Rattle.std.specs.Prelude.{◌≡◌};
-ghost use Rattle.numbers.specs.Limit.{limit_whole, limit_real};
+ghost use Rattle.std.specs.Ordering.{partial_lt};
+ghost use Rattle.numbers.specs.Limit.{limited};
 
-pub fn limit_whole(v: i16, low: i16, high: i16) -> i16
-    ensures { result ≡ limit_whole v low high }
+// Of INTEGER16 and of REAL32: what is no number is beyond no limit.
+#[tactic(auto, unfolding(crate::specs::Limit::limited, crate::specs::Choice::first))]
+pub fn limit<T: PartialOrd + Copy>(v: T, low: T, high: T) -> T
+    ensures { result ≡ limited (partial_lt T.partial_cmp) v low high }
 {
     if v < low {
-        return low;
-    }
-    if high < v {
-        return high;
-    }
-    v
-}
-
-pub fn limit_real(v: f32, low: f32, high: f32) -> f32
-    ensures { result ≡ limit_real v low high }
-{
-    if low > v {
         low
-    } else if v > high {
+    } else if high < v {
         high
     } else {
         v

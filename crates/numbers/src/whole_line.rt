@@ -15,7 +15,7 @@ pub struct Point {
 fn raise(v: i16) -> u32
     ensures { (pos result ≡ v +ℤ pos 32768) × (result < 65536) }
 {
-    (v as i32 + 32768) as u32
+    (i32::from(v) + 32768).cast_unsigned()
 }
 
 // A half goes away from zero, which is counted 32768 here: upward from there on, downward before it.

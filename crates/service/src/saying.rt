@@ -1,8 +1,8 @@
 // Pairs and entries as they are printed.
 use dictionary::slots::Unit;
 use std::fmt;
+use unit::pairs::Pair;
 use unit::words::{byte_at, whole_at};
-use why::types::Pair;
 
 // A source and a number, as they are called.
 #[derive(Clone, Copy)]

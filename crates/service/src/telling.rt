@@ -13,8 +13,9 @@ use signals::reading::{as_whole, failed};
 use signals::signal::Signal;
 use std::fmt;
 use std::fmt::{Formatter, Write};
+use unit::pairs::Pair;
 use unit::words::byte_at;
-use why::types::{End, Pair, TRAIL};
+use why::types::{End, TRAIL};
 
 // The rule that gave an output its command, and the trail to where an error began.
 #[derive(Clone, Copy)]

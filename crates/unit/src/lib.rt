@@ -2,5 +2,7 @@
 #![tactic(auto)]
 
 pub mod laying;
+pub mod pairs;
+pub mod rows;
 pub mod sources;
 pub mod words;

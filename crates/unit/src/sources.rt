@@ -6,6 +6,7 @@ ghost use Rattle.unit.specs.Entry as entry;
 ghost use Rattle.unit.specs.Extent.{extent};
 ghost use Rattle.unit.specs.Sources.{sourced};
 
+use crate::pairs::Pair;
 use crate::sources::held::held;
 use crate::words::whole_at;
 use dictionary::slots::{CONSTANT, EC_VALUE, FIXED, Unit};
@@ -39,9 +40,10 @@ fn constant(unit: &Unit, number: usize) -> f32
 }
 
 // The source is told apart once, and one arm serves all blocks, so that the whole is small enough to be inlined wherever it is asked.
-pub fn look_up(unit: &Unit, source: u8, number: u8) -> Signal
-    ensures { result ≡ sourced unit.now source number }
+pub fn look_up(unit: &Unit, pair: Pair) -> Signal
+    ensures { result ≡ sourced unit.now pair.source pair.number }
 {
+    let Pair { source, number } = pair;
     if number == 0 {
         return Signal::Absent;
     }

@@ -35,7 +35,7 @@ use Rattle.why.specs.declared.types.End.{End}
 use Rattle.why.specs.declared.types.End.TheVariants.{Flagged, Divided}
 use Rattle.why.specs.declared.types.Next.{Next}
 use Rattle.why.specs.declared.types.Next.TheVariants.{Ends, Reads}
-use Rattle.why.specs.declared.types.Pair.{Pair}
+use Rattle.unit.specs.declared.pairs.Pair.{Pair}
 use Rattle.why.proofs.Sights.{is_error_lem, by_tables}
 
 -- what is told of a row's error

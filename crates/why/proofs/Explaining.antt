@@ -29,7 +29,7 @@ use Rattle.why.specs.Answer.{signal}
 use Rattle.why.specs.Explains.{applies_to, Led, Explains}
 use Rattle.why.specs.Trail.{trail}
 use Rattle.why.specs.Trail as steps
-use Rattle.why.specs.declared.types.Pair.{Pair}
+use Rattle.unit.specs.declared.pairs.Pair.{Pair}
 use Rattle.why.proofs.Causes.{cause}
 use Rattle.why.proofs.Leads.{few, led}
 use Rattle.why.proofs.Rules.{applied, no_earlier}

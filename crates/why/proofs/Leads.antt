@@ -19,7 +19,7 @@ use Rattle.why.specs.declared.types.End.{End}
 use Rattle.why.specs.declared.types.End.TheVariants.{Earlier}
 use Rattle.why.specs.declared.types.Next.{Next}
 use Rattle.why.specs.declared.types.Next.TheVariants.{Ends, Reads}
-use Rattle.why.specs.declared.types.Pair.{Pair}
+use Rattle.unit.specs.declared.pairs.Pair.{Pair}
 use Rattle.why.proofs.Causes.{Cause, ends, reads}
 use Rattle.why.proofs.Sights.{names_block, holds_it}
 

@@ -23,7 +23,7 @@ use Rattle.controller.proofs.TickLaws.{words_kept}
 use Rattle.why.specs.Answer.{signal}
 use Rattle.why.specs.Explains.{at_sight}
 use Rattle.why.specs.Seen.{among, block_of, before_row, taken_before, saw}
-use Rattle.why.specs.declared.types.Pair.{Pair}
+use Rattle.unit.specs.declared.pairs.Pair.{Pair}
 use Rattle.why.proofs.Views.{Alike, View, other, block, view}
 
 never : (t : Bool) → (t && false) ≡ false

@@ -25,7 +25,7 @@ use Rattle.controller.specs.TickLaws.{Unpublished}
 use Rattle.controller.specs.Turns.{row_of}
 use Rattle.why.specs.Answer.{signal}
 use Rattle.why.specs.Seen.{among, block_of}
-use Rattle.why.specs.declared.types.Pair.{Pair}
+use Rattle.unit.specs.declared.pairs.Pair.{Pair}
 
 -- two units that agree in what no block publishes
 abbrev pub Alike : List ℕ → List ℕ → Type 0

@@ -22,7 +22,7 @@ use Rattle.why.specs.Seen.{block_of}
 use Rattle.why.specs.Trail.{math_pair, table_pair, logic_pair, trail}
 use Rattle.why.specs.declared.types.End.{End}
 use Rattle.why.specs.declared.types.End.TheVariants.{Flagged, Divided, Earlier}
-use Rattle.why.specs.declared.types.Pair.{Pair}
+use Rattle.unit.specs.declared.pairs.Pair.{Pair}
 
 -- ---- the rule
 

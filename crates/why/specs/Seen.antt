@@ -8,7 +8,7 @@ use Rattle.signals.specs.Words.{of_words}
 use Rattle.signals.specs.declared.signal.Signal.{Signal}
 use Rattle.unit.specs.Held.{inputs, maths, tables, logics, blocks}
 use Rattle.unit.specs.Sources.{sourced}
-use Rattle.why.specs.declared.types.Pair.{Pair}
+use Rattle.unit.specs.declared.pairs.Pair.{Pair}
 
 -- the row of number n of the blocks that begin at a row, 16 where they have no such number
 unfoldable pub among : ℕ → ℕ → ℕ → ℕ

@@ -2,10 +2,10 @@
 ghost use Rattle.std.specs.Prelude.{◌≡◌, ◌+◌, ◌<◌};
 ghost use Rattle.why.specs.Seen.{among, block_of, before_row, saw};
 
-use crate::types::Pair;
 use dictionary::slots::{BEFORE, Unit};
 use signals::keeping::of_words;
 use signals::signal::Signal;
+use unit::pairs::Pair;
 use unit::sources::look_up;
 
 // The place of one of the blocks that begin at a row; 16 where there is no such number.
@@ -51,10 +51,10 @@ pub fn seen(unit: &Unit, row: usize, pair: Pair) -> Signal
 {
     let block = block_of(pair);
     if block < row {
-        return look_up(unit, pair.source, pair.number);
+        return look_up(unit, pair);
     }
     if block < 16 {
         return found(unit, block);
     }
-    look_up(unit, pair.source, pair.number)
+    look_up(unit, pair)
 }

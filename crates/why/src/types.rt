@@ -1,14 +1,8 @@
 // What is told of an output.
+use unit::pairs::Pair;
 
 // The most bytes that an answer has: seven of the signal, the count, 17 steps, the end.
 pub const TRAIL: usize = 43;
-
-// A source and a number, as they stand in the entries.
-#[derive(Clone, Copy)]
-pub struct Pair {
-    pub source: u8,
-    pub number: u8,
-}
 
 // How a trail ends: with a flagged input, with a division by zero, with a signal taken from the last tick.
 #[derive(Clone, Copy)]
@@ -25,17 +19,16 @@ pub enum Next {
     Reads(Pair),
 }
 
-// The number of steps of a trail, and the number of its end.
+// The number of steps of a trail, and how it ends.
 #[derive(Clone, Copy)]
 pub struct Walked {
     pub count: u8,
-    pub end: u8,
+    pub end: End,
 }
 
-// The rule that gave the command, or why none is told.
-#[derive(Clone, Copy)]
-pub enum Why {
+// Why no rule is told.
+#[derive(Clone, Copy, Debug, PartialEq, Eq)]
+pub enum Untold {
     NoOutput,
     NoTick,
-    Told(u8),
 }

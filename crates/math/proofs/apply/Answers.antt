@@ -1,6 +1,7 @@
 -- `apply`: by the fold's flag, the zero divisor, and the contracts of `operate` and the limit.
 -- Assumes nothing.
 use Rattle.numbers.specs.Choice.{first}
+use Rattle.numbers.proofs.limits.LimitLaws.{of_real}
 use Rattle.math.specs.Fold.{running, resumed}
 use Rattle.math.specs.Math.{operated_on}
 use Rattle.math.proofs.MathLaws.{stays_broken}
@@ -18,7 +19,8 @@ unfolding operated_on running resumed first
 returns c =
     let breaks = c in
     simp (
-      c.limit_real-run.ensures,
+      c.limit-run.ensures,
+      of_real,
       c.operate.ensures,
       breaks.if-next.false,
       ← breaks.breaks.ensures,

@@ -4,6 +4,7 @@ use mathlib.Core.Path.{◌≡◌}
 use borrow.Author.Rules.{rules}
 use mir.Syntax.{w16}
 use mir.Val.{to_z, of_z}
+use Rattle.numbers.proofs.limits.LimitLaws.{of_real}
 use Rattle.numbers.proofs.Tests.{tests}
 use Rattle.numbers.specs.Choice.{first}
 use Rattle.math.specs.Fold.{running}
@@ -20,4 +21,4 @@ returns c =
     let ends = c.args.ends in
     let from : to_z w16 (of_z w16 ends.from) ≡ ends.from = search rules in
     let to : to_z w16 (of_z w16 ends.to) ≡ ends.to = search rules in
-    simp (c.limit_real.ensures, c.limit_real-part.ensures, c.if-fold.false, from, to)
+    simp (c.limit.ensures, c.limit-part.ensures, of_real, c.if-fold.false, from, to)

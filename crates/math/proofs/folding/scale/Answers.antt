@@ -4,6 +4,7 @@ use mathlib.Core.Path.{◌≡◌}
 use borrow.Author.Rules.{rules}
 use mir.Syntax.{w16}
 use mir.Val.{to_z, of_z}
+use Rattle.numbers.proofs.limits.LimitLaws.{of_real}
 use Rattle.math.specs.Math.{scaled}
 use Rattle.math.proofs.folding.scale.Goals as goal
 
@@ -14,4 +15,4 @@ returns c =
     let from : to_z w16 (of_z w16 fold.from) ≡ fold.from = search rules in
     let to : to_z w16 (of_z w16 fold.to) ≡ fold.to = search rules in
     let gain : to_z w16 (of_z w16 fold.gain) ≡ fold.gain = search rules in
-    simp (c.limit_real-part.ensures, from, to, gain)
+    simp (c.limit-part.ensures, of_real, from, to, gain)

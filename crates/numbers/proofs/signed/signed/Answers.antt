@@ -1,29 +1,29 @@
--- The INTEGER16 of a word: below 8000h the pattern itself, else counted from -32768, which is 10000h less.
+-- The INTEGER16 of a word is its low 16 bits, read with their sign.
 -- Assumes nothing.
-use Prim.Native.Nat.{ℕ, ◌-◌, ◌%◌, ◌<◌, ◌≤◌}
-use mathlib.Core.Path.{◌≡◌, ◌∙◌}
+use Prim.Native.Nat.{ℕ, suc, ◌-◌, ◌%◌, ◌<◌}
+use mathlib.Core.Bool.{Bool, true, false}
+use mathlib.Core.Path.{◌≡◌, refl, ◌∙◌}
 use native.Mathlib.Omega.{arith}
-use borrow.Author.Rules.{rules}
-use borrow.Author.Tests.{lt-ltb, le-ltb}
-use lib.IntN.{pos, ◌-ℤ◌}
-use mir.Facts.{to_z-of_z}
+use lib.Dec.{ltb}
+use mir.Syntax.{w16}
+use mir.Val.{to_z, sel}
+use lib.IntN.{pos, negsuc, neg_ℤ}
 use Rattle.numbers.specs.Choice.{first}
 use Rattle.numbers.specs.Signed.{twos, signed16}
-use Rattle.numbers.proofs.Differences.{same, lowered, minus, whole}
+use Rattle.numbers.proofs.ExactLaws.{back}
 use Rattle.numbers.proofs.signed.signed.Goals as goal
-use mir.Syntax.{w16}
 
-upper : (p : ℕ) → 0x8000 ≤ p → p < 0x10000 → pos (p - 0x8000) -ℤ pos 32768 ≡ twos p
+read : (p : ℕ) → p < 0x10000 → to_z w16 p ≡ twos p
 unfolding twos first
-upper p h k = rw (le-ltb p 0x8000 h) (same (lowered (p - 0x8000) 32768) (minus (whole (0x10000 - p))) (omega arith))
+read p h = by (ltb p 0x8000)
+  where
+    upper : 0x10000 - p ≡ suc (0x10000 - suc p)
+    upper = omega arith
 
-pub returns-then-low-lt32768 : goal.returns-then-low-lt32768
-unfolding signed16 twos first
-returns-then-low-lt32768 c = rw (lt-ltb (c.args.word % 0x10000) 0x8000 c.if-low-lt32768.true)
+    by : (low : Bool) → sel low (pos p) (negsuc (0x10000 - suc p)) ≡ first low (pos p) (neg_ℤ (pos (0x10000 - p)))
+    by true = refl
+    by false = rw upper
 
 pub returns : goal.returns
 unfolding signed16
-returns c =
-    to_z-of_z {w = w16} (search rules)
-    ∙ c.lower.ensures
-    ∙ upper (c.args.word % 0x10000) c.if-low-lt32768.false (omega arith)
+returns c = back c.cast_signed.type_inv c.cast_signed.ensures ∙ read (c.args.word % 0x10000) (omega arith)

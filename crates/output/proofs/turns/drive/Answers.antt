@@ -1,58 +1,58 @@
 -- Rules 1 and 2 by the enable alone.
 -- Assumes nothing.
 use Prim.Native.Nat.{◌+◌, ◌<◌}
-use mathlib.Core.Path.{◌≡◌, refl, ap, ◌∙◌}
+use mathlib.Core.Path.{refl, ap, ◌∙◌}
 use native.Mathlib.Omega.{arith}
 use Rattle.numbers.proofs.ExactLaws.{back}
 use Rattle.numbers.specs.Choice.{first}
-use Rattle.output.specs.Output.{rests}
-use Rattle.output.specs.Turning.{turned_off}
 use Rattle.unit.proofs.Slots.{has}
-use Rattle.unit.specs.Entry.{byte}
-use Rattle.unit.specs.Sources.{sourced}
+use Rattle.unit.proofs.WordLaws.{byte_is, looked_up}
+use Rattle.output.specs.Output.{rests}
 use Rattle.output.proofs.turns.RuleLaws.{by_enable}
-use Rattle.unit.proofs.WordLaws.{byte_is}
 use Rattle.output.proofs.turns.drive.Goals as goal
-use Rattle.output.proofs.turns.drive.Goals.{After-look_up-enable, After-turned_off}
-
--- what the enable is
-enable : (s : After-look_up-enable) → let a = s.before.before.before.args in
-    let u = a.unit.now in
-    s.look_up-enable.result ≡ sourced u (byte u 0x2350 (a.k + 1)) (byte u 0x2351 (a.k + 1))
-unfolding has
-enable s = let a = s.before.before.before.args in
-    let u = a.unit.now in
-    let k = a.k in
-    let h : k < 4 = omega arith in
-    rw (← byte_is 0x2350 u k h s.before.before.byte_at.ensures refl, ← byte_is 0x2351 u k h s.before.byte_at-2.ensures refl) s.look_up-enable.ensures
-
--- whether it turns the output off, round or not
-off : (s : After-turned_off) → let a = s.before.before.before.before.before.args in
-    let u = a.unit.now in
-    s.turned_off.result ≡ turned_off (byte u 0x2352 (a.k + 1)) (sourced u (byte u 0x2350 (a.k + 1)) (byte u 0x2351 (a.k + 1)))
-unfolding has
-off s = let a = s.before.before.before.before.before.args in
-    let u = a.unit.now in
-    let k = a.k in
-    let h : k < 4 = omega arith in
-    rw (← enable s.before.before, ← byte_is 0x2352 u k h s.before.byte_at-3.ensures refl) s.turned_off.ensures
 
 pub returns-then-turned_off : goal.returns-then-turned_off
-unfolding first
-returns-then-turned_off c = let t = c in
-    let a = t.args in
-    rw (by_enable a.unit.now (a.k + 1), ← off (goal.at.returns-then-turned_off c).After-turned_off, c.if-turned_off.true) c.rest.ensures
+unfolding first has
+returns-then-turned_off c =
+    let u = c.args.output.unit.now in
+    let k = c.args.output.k in
+    let h : k < 4 = c.args.output.is_one in
+    rw (
+      by_enable u (k + 1),
+      ← looked_up 0x2350 0x2351 u k h c.pair.ensures c.look_up-enable.ensures refl refl,
+      ← byte_is 0x2352 u k h c.byte.ensures refl,
+      ← c.turned_off.ensures,
+      c.if-turned_off.true,
+    ) c.rest.ensures
 
 pub returns-then-failed : goal.returns-then-failed
-unfolding first
-returns-then-failed c = let f = c in
-    let t = f in
-    let a = t.args in
-    rw (by_enable a.unit.now (a.k + 1), ← off (goal.at.returns-then-failed c).After-turned_off, f.if-turned_off.false, ← enable (goal.at.returns-then-failed c).After-look_up-enable, ← f.failed.ensures, c.if-failed.true) (c.rest-then-failed.ensures ∙ ap rests (back c.fault.type_inv c.fault.ensures))
+unfolding first has
+returns-then-failed c =
+    let u = c.args.output.unit.now in
+    let k = c.args.output.k in
+    let h : k < 4 = c.args.output.is_one in
+    rw (
+      by_enable u (k + 1),
+      ← looked_up 0x2350 0x2351 u k h c.pair.ensures c.look_up-enable.ensures refl refl,
+      ← byte_is 0x2352 u k h c.byte.ensures refl,
+      ← c.turned_off.ensures,
+      c.if-turned_off.false,
+      ← c.failed.ensures,
+      c.if-failed.true,
+    ) (c.rest-then-failed.ensures ∙ ap rests (back c.fault.type_inv c.fault.ensures))
 
 pub returns : goal.returns
-unfolding first
-returns c = let f = c in
-    let t = f in
-    let a = t.args in
-    rw (by_enable a.unit.now (a.k + 1), ← off (goal.at.returns c).After-turned_off, f.if-turned_off.false, ← enable (goal.at.returns c).After-look_up-enable, ← f.failed.ensures, c.if-failed.false) c.override_or_control.ensures
+unfolding first has
+returns c =
+    let u = c.args.output.unit.now in
+    let k = c.args.output.k in
+    let h : k < 4 = c.args.output.is_one in
+    rw (
+      by_enable u (k + 1),
+      ← looked_up 0x2350 0x2351 u k h c.pair.ensures c.look_up-enable.ensures refl refl,
+      ← byte_is 0x2352 u k h c.byte.ensures refl,
+      ← c.turned_off.ensures,
+      c.if-turned_off.false,
+      ← c.failed.ensures,
+      c.if-failed.false,
+    ) c.override_or_control.ensures
