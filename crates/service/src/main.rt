@@ -13,7 +13,7 @@ use std::env::Env;
 use telling::Account;
 use terminal::arguments::is_given;
 use why::asking::why;
-use why::types::{TRAIL, Why};
+use why::types::{TRAIL, Untold};
 
 // The output that a word names; 0 where it is no digit.
 fn number_in(word: &[u8]) -> u8 {
@@ -41,11 +41,7 @@ fn main(rt: HostRuntime) {
     hear_all(&mut rt.stdin(), &mut unit);
     let mut trail = [0u8; TRAIL];
     let _ = match why(&unit, output, &mut trail) {
-        Why::NoOutput => println!(rt; "there is no such output: there are 1 to 4"),
-        Why::NoTick => {
-            println!(rt; "there was no tick since the start or the last accepted write")
-        }
-        Why::Told(rule) => {
+        Ok(rule) => {
             let account = Account {
                 unit: &unit,
                 output,
@@ -53,6 +49,10 @@ fn main(rt: HostRuntime) {
                 trail: &trail,
             };
             println!(rt; "{account}done")
+        }
+        Err(Untold::NoOutput) => println!(rt; "there is no such output: there are 1 to 4"),
+        Err(Untold::NoTick) => {
+            println!(rt; "there was no tick since the start or the last accepted write")
         }
     };
 }

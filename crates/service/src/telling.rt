@@ -8,14 +8,14 @@ use dictionary::slots::{
     OPERAND_SOURCE, OVERRIDE_FV, OVERRIDE_NUMBER, OVERRIDE_RESPONSE, OVERRIDE_SOURCE, SAMPLE,
     SPAN_END, SPAN_START, TABLE_ENTRIES, TABLE_NUMBER, TABLE_SOURCE, Unit,
 };
-use signals::keeping::real_of;
-use signals::reading::as_whole;
+use signals::keeping::{number_of, of_words};
+use signals::reading::{as_whole, failed};
 use signals::signal::Signal;
 use std::fmt;
 use std::fmt::{Formatter, Write};
 use unit::pairs::Pair;
 use unit::words::byte_at;
-use why::types::TRAIL;
+use why::types::{End, TRAIL};
 
 // The rule that gave an output its command, and the trail to where an error began.
 #[derive(Clone, Copy)]
@@ -29,7 +29,7 @@ pub struct Account<'a> {
 impl fmt::Display for Account<'_> {
     fn fmt<W: Write>(&self, f: &mut Formatter<W>) -> fmt::Result {
         self.tell_rule(f)?;
-        if self.trail[2] == 3 {
+        if failed(self.signal()) {
             return self.tell_trail(f);
         }
         Ok(())
@@ -38,20 +38,22 @@ impl fmt::Display for Account<'_> {
 
 // ---- the rule
 
-// A whole number, or what tables and outputs make of a REAL32, with its bits.
+// A signal; of a REAL32 what tables and outputs make of it, with its bits.
 #[derive(Clone, Copy)]
-struct Value<'a>(&'a [u8; TRAIL]);
+struct State(Signal);
 
-impl fmt::Display for Value<'_> {
+impl fmt::Display for State {
     fn fmt<W: Write>(&self, f: &mut Formatter<W>) -> fmt::Result {
-        let trail = self.0;
-        if trail[2] == 1 {
-            let whole = i16::from_le_bytes([trail[3], trail[4]]);
-            return write!(f, "{whole}");
+        match self.0 {
+            Signal::Whole(whole) => write!(f, "{whole}"),
+            Signal::Real(_) => {
+                let whole = as_whole(self.0);
+                let bits = number_of(self.0);
+                write!(f, "{whole} as a whole number, REAL32 {bits:08X}h")
+            }
+            Signal::Error => write!(f, "in error"),
+            Signal::Absent => write!(f, "not available"),
         }
-        let bits = u32::from_le_bytes([trail[3], trail[4], trail[5], trail[6]]);
-        let whole = as_whole(Signal::Real(real_of(bits)));
-        write!(f, "{whole} as a whole number, REAL32 {bits:08X}h")
     }
 }
 
@@ -102,14 +104,21 @@ impl Account<'_> {
         }
     }
 
+    // The signal that decided.
+    fn signal(&self) -> Signal {
+        let [_, _, kind, first, second, third, fourth, ..] = *self.trail;
+        of_words(
+            u32::from(kind),
+            u32::from_le_bytes([first, second, third, fourth]),
+        )
+    }
+
     fn tell_state<W: Write>(&self, f: &mut Formatter<W>) -> fmt::Result {
-        let value = Value(self.trail);
+        let state = State(self.signal());
         match self.rule {
-            1 => write!(f, "off, at {value}"),
-            3 => write!(f, "on, at {value}"),
-            6 => write!(f, "not available"),
-            7 => write!(f, "{value}"),
-            _ => write!(f, "in error"),
+            1 => write!(f, "off, at {state}"),
+            3 => write!(f, "on, at {state}"),
+            _ => write!(f, "{state}"),
         }
     }
 
@@ -221,14 +230,14 @@ impl Account<'_> {
         trail.get(at).copied().unwrap_or(0)
     }
 
-    fn tell_logic<W: Write>(&self, f: &mut Formatter<W>, logic: u8, read: &Reads) -> fmt::Result {
-        let table = Called(read.pair);
+    fn tell_logic<W: Write>(&self, f: &mut Formatter<W>, logic: u8, reads: &Reads) -> fmt::Result {
+        let table = Called(reads.pair);
         let slot = LOGIC_SELECTED + usize::from(logic) - 1;
         let selected = byte_entry(self.unit, slot, 0x4010, logic);
         writeln!(f, "selected {table} [{selected}]")
     }
 
-    fn tell_table<W: Write>(&self, f: &mut Formatter<W>, table: u8, read: &Reads) -> fmt::Result {
+    fn tell_table<W: Write>(&self, f: &mut Formatter<W>, table: u8, reads: &Reads) -> fmt::Result {
         let entries = TABLE_ENTRIES * usize::from(table);
         let index = 0x3000 + 0x10 * u32::from(table);
         let source = byte_entry(self.unit, TABLE_SOURCE + entries - TABLE_ENTRIES, index, 0);
@@ -238,7 +247,7 @@ impl Account<'_> {
             index + 1,
             0,
         );
-        writeln!(f, "{read} [{source}, {number}]")
+        writeln!(f, "{reads} [{source}, {number}]")
     }
 
     fn has_pair(&self, at: usize, pair: Pair) -> bool
@@ -259,9 +268,9 @@ impl Account<'_> {
     }
 
     // A math block's entries begin at its index, 4600h for math 1.
-    fn tell_math<W: Write>(&self, f: &mut Formatter<W>, math: u8, read: &Reads) -> fmt::Result {
+    fn tell_math<W: Write>(&self, f: &mut Formatter<W>, math: u8, reads: &Reads) -> fmt::Result {
         let index = 0x4500 + 0x100 * u32::from(math);
-        let input = self.input_of(math, read.pair);
+        let input = self.input_of(math, reads.pair);
         let at = operand_at(math, input);
         let source = byte_entry(self.unit, at, index, input);
         let number = byte_entry(
@@ -270,17 +279,17 @@ impl Account<'_> {
             index + 1,
             input,
         );
-        writeln!(f, "{read}, its input {input} [{source}, {number}]")
+        writeln!(f, "{reads}, its input {input} [{source}, {number}]")
     }
 
     // The block of one step reads the next.
-    fn tell_step<W: Write>(&self, f: &mut Formatter<W>, block: Pair, read: &Reads) -> fmt::Result {
+    fn tell_step<W: Write>(&self, f: &mut Formatter<W>, block: Pair, reads: &Reads) -> fmt::Result {
         let called = Called(block);
         write!(f, "{called} ")?;
         match block.source {
-            3 => self.tell_table(f, block.number, read),
-            5 => self.tell_math(f, block.number, read),
-            _ => self.tell_logic(f, block.number, read),
+            3 => self.tell_table(f, block.number, reads),
+            5 => self.tell_math(f, block.number, reads),
+            _ => self.tell_logic(f, block.number, reads),
         }
     }
 
@@ -302,27 +311,41 @@ impl Account<'_> {
     }
 
     // The last step is where the error began; one that the last tick left was told with its reader.
-    fn tell_end<W: Write>(&self, f: &mut Formatter<W>, block: Pair, end: u8) -> fmt::Result {
-        if end == 3 {
-            return Ok(());
-        }
+    fn tell_end<W: Write>(&self, f: &mut Formatter<W>, block: Pair, end: End) -> fmt::Result {
         let called = Called(block);
-        write!(f, "{called} ")?;
-        if end == 1 {
-            return self.tell_flag(f, block.number);
+        match end {
+            End::Flagged => {
+                write!(f, "{called} ")?;
+                self.tell_flag(f, block.number)
+            }
+            End::Divided => {
+                write!(f, "{called} ")?;
+                self.tell_division(f, block.number)
+            }
+            End::Earlier => Ok(()),
         }
-        self.tell_division(f, block.number)
+    }
+
+    // How a trail of so many steps ends.
+    fn end(&self, count: usize) -> End
+        requires { count < 256 }
+    {
+        match self.trail_byte(8 + 2 * count) {
+            1 => End::Flagged,
+            3 => End::Earlier,
+            _ => End::Divided,
+        }
     }
 
     fn tell_trail<W: Write>(&self, f: &mut Formatter<W>) -> fmt::Result {
         let count = usize::from(self.trail[7]);
-        let end = self.trail_byte(8 + 2 * count);
+        let end = self.end(count);
         for k in 1..count {
-            let read = Reads {
+            let reads = Reads {
                 pair: self.step(k + 1),
-                earlier: end == 3 && k + 1 == count,
+                earlier: matches!(end, End::Earlier) && k + 1 == count,
             };
-            self.tell_step(f, self.step(k), &read)?;
+            self.tell_step(f, self.step(k), &reads)?;
         }
         self.tell_end(f, self.step(count), end)
     }
