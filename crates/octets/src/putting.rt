@@ -2,7 +2,8 @@
 ghost use Rattle.std.specs.Prelude.{◌≡◌};
 ghost use Rattle.std.proofs.lemmas.List.Edits.{sets};
 
-#[tactic(auto, using(crate::proofs::putting::Room::copied, crate::proofs::putting::Room::sets_out))]
+// How many bytes go is settled before the first one does: with one test a byte they can go as words. copy_from_slice calls C's memmove, and
+// what C links may call only memcpy and memset.
 pub fn put(buffer: &mut [u8], at: usize, piece: &[u8])
     ensures { buffer.new ≡ sets buffer.old at piece.now }
 {
@@ -10,5 +11,7 @@ pub fn put(buffer: &mut [u8], at: usize, piece: &[u8])
         return;
     }
     let count = piece.len().min(buffer.len() - at);
-    buffer[at..at + count].copy_from_slice(&piece[..count]);
+    for k in 0..count {
+        buffer[at + k] = piece[k];
+    }
 }

@@ -1,16 +1,19 @@
 -- Bytes stored one after the other, as far as the buffer reaches.
 -- Assumes nothing.
 use Prim.Native.Nat.{ℕ, suc, ◌+◌, ◌-◌, ◌<◌, ◌≤◌, min}
-use mathlib.Core.List.{List, [], ◌∷◌, ◌++◌}
+use mathlib.Core.List.{List, [], ◌∷◌}
 use mathlib.Core.Path.{◌≡◌, refl, sym, ap, ◌∙◌}
+use native.Mathlib.Numerals.{add-one}
 use native.Mathlib.Omega.{arith, min_cases}
-use lib.ListN.{length, take, drop, take-append-drop}
-use lib.Seq.{sets, length-sets, set_out, length-take-le, take-length, sets-eq}
-use borrow.Rule.Slice.PartMut.{put_mid}
-use Rattle.std.proofs.lemmas.List.{append_assoc}
-use Rattle.std.proofs.lemmas.List.Edits.{paste_all}
-use Rattle.std.proofs.lemmas.Slice.{put_mid-paste}
+use lib.ListN.{length, take, drop, get_or, set, take-append-drop}
+use lib.Seq.{sets, length-sets, set_out, take-suc, length-take-le, take-length}
 use Rattle.octets.proofs.little.Parts.{sets_append}
+
+-- one byte more of a piece
+pub sets_next : (l : List ℕ) (at : ℕ) (piece : List ℕ) (k : ℕ) → k < length piece
+    → set (sets l at (take k piece)) (at + k) (get_or piece k 0) ≡ sets l at (take (k + 1) piece)
+sets_next l at piece k h =
+    rw (add-one, take-suc piece k 0 h, sets_append (take k piece) (get_or piece k 0 ∷ []) l at, length-take-le k piece (omega arith))
 
 -- past the buffer's end nothing is stored
 pub sets_out : (l : List ℕ) (at : ℕ) (piece : List ℕ) → length l ≤ at → l ≡ sets l at piece
@@ -27,17 +30,3 @@ sets_room l at piece = min_cases (length piece) (length l - at) _ (λ p e. rw (e
         let rest : length (sets l at (take k piece)) ≤ at + k = omega arith in
         sets_out (sets l at (take k piece)) (at + k) (drop k piece) rest
         ∙ sym (ap (sets l at) (sym (take-append-drop k piece)) ∙ sets_append (take k piece) (drop k piece) l at ∙ rw (length-take-le k piece h))
-
--- the copied part in its place
-pub copied : (l : List ℕ) (at n : ℕ) (piece : List ℕ) {part : List ℕ} → at < length l → n ≡ min (length piece) (length l - at) → part ≡ take n piece
-    → put_mid at (at + n - at) l part ≡ sets l at piece
-copied l at n piece inside e told =
-    let few : n ≤ length piece = omega arith in
-    let fits : at + n ≤ length l = omega arith in
-    let long : n ≡ length (take n piece) = sym (length-take-le n piece few) in
-    put_mid-paste at (at + n - at) l _ (take n piece) n told (omega arith) long
-    ∙ paste_all l at (take n piece) n long
-    ∙ sym (append_assoc (take at l) (take n piece) (drop (at + n) l))
-    ∙ ap (λ (k : ℕ). take at l ++ take n piece ++ drop (at + k) l) long
-    ∙ sym (sets-eq (take n piece) l at (rw (← long) fits))
-    ∙ rw e (sets_room l at piece)
