@@ -81,11 +81,12 @@ def everything(crate, pattern):
 def of_function(crate, function):
     """What is the function's alone, each text with its file below the crate: its body, and constants that nothing else uses."""
     *modules, name = function.split("::")
-    file = "src/%s.rt" % "/".join(modules or ["lib"])
-    text = (CRATES / crate / file).read_text()
-    head = re.search(r"^(pub )?(extern \"C\" )?fn %s\b" % name, text, re.M)
-    begin = re.compile(r"^\{$|\) (-> [^{}\n]+ )?\{$", re.M).search(text, head.end()).end()
-    body = text[begin : text.index("\n}\n", begin)]
+    is_method = bool(modules) and modules[-1][0].isupper()
+    file = "src/%s.rt" % "/".join(modules[:-1] if is_method else modules or ["lib"])
+    text, indent = (CRATES / crate / file).read_text(), " " * 4 * is_method
+    head = re.search(r"^%s(pub(\(crate\))? )?(extern \"C\" )?fn %s\b" % (indent, name), text, re.M)
+    begin = re.compile(r"^%s\{$|\) (-> [^{}\n]+ )?\{$" % indent, re.M).search(text, head.end()).end()
+    body = text[begin : text.index("\n%s}\n" % indent, begin)]
     source = re.sub(r"^use .*$", "", everything(crate, "src/**/*.rt"), flags=re.M)
     own = [(file, body)]
     for place in (CRATES / crate / "src").rglob("*.rt"):
