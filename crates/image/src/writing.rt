@@ -25,10 +25,8 @@ fn write_rows(words: &[u32], image: &mut [u8], rows: &[u32], from: Front) -> Fro
     ensures { Placed (flat_map row_of rows.now) words.now from image.old image.new result }
 {
     let mut front = from;
-    let mut at: usize = 0;
-    while at < rows.len() {
-        front = write_row(words, image, rows[at], front);
-        at += 1;
+    for row in rows {
+        front = write_row(words, image, *row, front);
     }
     front
 }
@@ -41,7 +39,6 @@ pub fn write(words: &[u32], image: &mut [u8]) -> Result<(), Refusal>
         return Err(Refusal::NoRoom);
     }
     put_number(image, 0, 4, RECORDS);
-    let rows = ROWS;
-    write_rows(words, image, &rows, Front { slot: 0, place: 4 });
+    write_rows(words, image, &ROWS, Front { slot: 0, place: 4 });
     Ok(())
 }

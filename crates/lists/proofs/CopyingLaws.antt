@@ -1,17 +1,18 @@
 -- Records copied one after the other.
 -- Assumes nothing.
 use mathlib.Core.Path.{◌≡◌, refl, sym, ap, ◌∙◌}
-use mathlib.Core.List.{List, ◌++◌, flat_map}
-use Prim.Native.Nat.{ℕ, suc, ◌+◌, ◌-◌, ◌<◌, ◌≤◌}
+use mathlib.Core.List.{List, [], ◌∷◌, ◌++◌, flat_map}
+use Prim.Native.Nat.{ℕ, zero, suc, ◌+◌, ◌-◌, ◌<◌, ◌≤◌}
 use native.Mathlib.Omega.{arith}
 use lib.ListN.{length, get_or, set, take, drop, length-append, length-drop, drop_of_length-le}
-use lib.Seq.{sets, drop-cons, drop-drop, take-add, length-take-le, length-sets}
+use lib.Seq.{sets, set-set, drop-cons, drop-drop, take-nil, take-add, take_at, length-take-le, length-sets}
 use Rattle.octets.specs.Little.{bytes}
 use Rattle.octets.proofs.little.ByteLaws.{bytes_length}
-use Rattle.octets.proofs.little.Parts.{placed, part, sets_append}
+use Rattle.octets.proofs.little.Parts.{sets_append}
 use Rattle.records.specs.Walk.{size_in}
 use Rattle.lists.specs.Noting.{Stands, record_from}
 use Rattle.lists.proofs.changes.ComparingLaws.{first_tells}
+use Rattle.lists.proofs.changes.NotingLaws.{set_before}
 
 -- ---- one record more
 
@@ -64,65 +65,48 @@ module _ (wanted places list₀ list : List ℕ) (at k : ℕ) (l : Left wanted p
   unfolding flat_map
   all_copied h = sym (ap (λ (p : List ℕ). sets list at (flat_map (record_from wanted) p)) (drop_of_length-le places h)) ∙ l.whole
 
--- ---- the record at a place
+-- ---- the record at a place, by its two ends
 
-pub four_put : (list wanted : List ℕ) (at place : ℕ) → place + 4 ≤ length wanted
-    → set (set (set (set list at (get_or wanted place 0)) (at + 1) (get_or wanted (place + 1) 0)) (at + 2) (get_or wanted (place + 2) 0)) (at + 3) (get_or wanted (place + 3) 0)
-    ≡ sets list at (take 4 (drop place wanted))
-unfolding placed
-four_put list wanted at place h =
-    let next : (n : ℕ) → n + 1 ≡ suc n = λ n. omega arith in
-    let two : (n : ℕ) → n + 2 ≡ suc (suc n) = λ n. omega arith in
-    let three : (n : ℕ) → n + 3 ≡ suc (suc (suc n)) = λ n. omega arith in
-    rw (part wanted 4 place h, next at, next place, two at, two place, three at, three place)
+-- what was written in part is written whole
+again : (v m : List ℕ) (i n : ℕ) → sets (sets m i (take n v)) i v ≡ sets m i v
+again [] m i n = ap (λ (l : List ℕ). sets m i l) (take-nil n)
+again (a ∷ v) m i zero = refl
+again (a ∷ v) m i (suc n) =
+    ap (λ (l : List ℕ). sets l (suc i) v) (set_before (take n v) (set m i a) i (suc i) a (omega arith) ∙ ap (λ (l : List ℕ). sets l (suc i) (take n v)) (set-set m i a a))
+    ∙ again v (set m i a) (suc i) n
 
-pub eight_put : (list wanted : List ℕ) (at place : ℕ) → place + 8 ≤ length wanted → {list' list'' : List ℕ}
-    → list' ≡ sets list at (take 4 (drop place wanted)) → list'' ≡ sets list' (at + 4) (take 4 (drop (place + 4) wanted))
-    → list'' ≡ sets list at (take 8 (drop place wanted))
-eight_put list wanted at place h p q =
-    let room = length-drop place wanted in
-    let four = length-take-le 4 (drop place wanted) (omega arith) in
-    q ∙ rw (p, take-add 4 4 (drop place wanted), drop-drop 4 place wanted)
-    (sym (sets_append (take 4 (drop place wanted)) (take 4 (drop (place + 4) wanted)) list at ∙ rw four))
+take_front : (n m : ℕ) (xs : List ℕ) → n ≤ length xs → take n (take (n + m) xs) ≡ take n xs
+take_front n m xs h = ap (take n) (take-add n m xs) ∙ take_at (take n xs) (take m (drop n xs)) n (length-take-le n xs h)
 
-module _ (wanted : List ℕ) (place : ℕ) (s : Stands wanted place) {end : ℕ} (e : end ≡ place + 7 + get_or wanted (place + 3) 0) where
-  end_told : end ≡ place + 7 + size_in (drop place wanted)
-  end_told = e ∙ ap (λ (n : ℕ). place + 7 + n) (first_tells wanted place s)
+module _ (l xs : List ℕ) (at k : ℕ) (h : k ≤ 8) (room : 8 ≤ length xs) where
+  both_ends : sets (sets l at (take 8 xs)) (at + k) (take 8 (drop k xs)) ≡ sets l at (take (k + 8) xs)
+  both_ends =
+      let sum : 8 ≡ k + (8 - k) = omega arith in
+      let more : 8 - k + k ≡ 8 = omega arith in
+      let front : take 8 xs ≡ take k xs ++ take (8 - k) (take 8 (drop k xs))
+      = ap (λ (n : ℕ). take n xs) sum ∙ take-add k (8 - k) xs ∙ ap (λ (m : List ℕ). take k xs ++ m) (sym (ap (λ (n : ℕ). take (8 - k) (take n (drop k xs))) (sym more) ∙ take_front (8 - k) k (drop k xs) (omega (arith, length-drop k xs)))) in
+      let long = length-take-le k xs (omega arith) in
+      rw (front, sets_append (take k xs) (take (8 - k) (take 8 (drop k xs))) l at, long, again (take 8 (drop k xs)) (sets l at (take k xs)) (at + k) (8 - k), take-add k 8 xs)
+      (sym (sets_append (take k xs) (take 8 (drop k xs)) l at ∙ rw long))
 
-  -- at least eight bytes, all of them in the image
-  pub inside : (place + 8 ≤ end) × (end ≤ length wanted)
-  inside =
-      let some = s.some in
-      let within = s.inside in
-      (omega (arith, end_told), omega (arith, end_told))
+module _ (wanted : List ℕ) (place : ℕ) (s : Stands wanted place) where
+  past : ℕ
+  past = get_or wanted (place + 3) 0 - 1
 
-  pub record_long : length (record_from wanted place) ≡ end - place
+  -- eight to eleven bytes, all of them in the image
+  pub told : (get_or wanted (place + 3) 0 ≡ size_in (drop place wanted)) × (0 < size_in (drop place wanted)) × (size_in (drop place wanted) ≤ 4)
+      × (place + 7 + size_in (drop place wanted) ≤ length wanted) × (length (record_from wanted place) ≡ 7 + size_in (drop place wanted))
   unfolding record_from
-  record_long =
+  told =
       let within = s.inside in
       let room = length-drop place wanted in
-      length-take-le (7 + size_in (drop place wanted)) (drop place wanted) (omega arith) ∙ omega (arith, end_told)
+      (first_tells wanted place s, s.some, s.small, s.inside, length-take-le (7 + size_in (drop place wanted)) (drop place wanted) (omega arith))
 
-  -- eight bytes, and the rest
-  split_record : record_from wanted place ≡ take 8 (drop place wanted) ++ take (end - (place + 8)) (drop (place + 8) wanted)
+  pub record_put : {k : ℕ} → k ≡ get_or wanted (place + 3) 0 - 1 → (list : List ℕ) (at : ℕ) {list' list'' : List ℕ}
+      → list' ≡ sets list at (take 8 (drop place wanted)) → list'' ≡ sets list' (at + k) (take 8 (drop (place + k) wanted)) → list'' ≡ sets list at (record_from wanted place)
   unfolding record_from
-  split_record =
-      let some = s.some in
-      let sum : 7 + size_in (drop place wanted) ≡ 8 + (end - (place + 8)) = omega (arith, end_told) in
-      ap (λ (n : ℕ). take n (drop place wanted)) sum ∙ take-add 8 (end - (place + 8)) (drop place wanted) ∙ rw (drop-drop 8 place wanted)
-
-  module _ (list : List ℕ) (at : ℕ) {list' : List ℕ} (p : list' ≡ sets list at (take 8 (drop place wanted))) where
-    pub kept_long : length list' ≡ length list
-    kept_long = ap length p ∙ length-sets list at (take 8 (drop place wanted))
-
-    pub record_put : {list'' : List ℕ} → list'' ≡ sets list' (at + 8) (take (end - (place + 8)) (drop (place + 8) wanted)) → list'' ≡ sets list at (record_from wanted place)
-    record_put q =
-        let room = length-drop place wanted in
-        let eight = length-take-le 8 (drop place wanted) (omega (arith, inside.0, inside.1)) in
-        q ∙ rw (p, split_record) (sym (sets_append (take 8 (drop place wanted)) (take (end - (place + 8)) (drop (place + 8) wanted)) list at ∙ rw eight))
-
-    pub ninth_put : end ≡ place + 9 → {list'' : List ℕ} → list'' ≡ set list' (at + 8) (get_or wanted (place + 8) 0) → list'' ≡ sets list at (record_from wanted place)
-    unfolding placed
-    ninth_put n q =
-        let one : end - (place + 8) ≡ 1 = omega arith in
-        record_put (q ∙ ap (sets list' (at + 8)) (sym (ap (λ (k : ℕ). take k (drop (place + 8) wanted)) one ∙ part wanted 1 (place + 8) (omega (arith, inside.1)))))
+  record_put {k} e list at p q =
+      let t = told in
+      let room = length-drop place wanted in
+      let whole : k + 8 ≡ 7 + size_in (drop place wanted) = omega (arith, t.0, t.1) in
+      q ∙ rw (p, ← drop-drop k place wanted) (both_ends list (drop place wanted) at k (omega (arith, t.0, t.2)) (omega (arith, t.1, t.3))) ∙ ap (λ (n : ℕ). sets list at (take n (drop place wanted))) whole

@@ -16,16 +16,15 @@ use octets::little::four_at;
 fn take_row(body: &[u8], row: u32) -> Result<usize, Refusal>
     ensures { result ≡ walked (row_of row) body.now }
 {
+    let first = (row / 0x1000 % 0x10) as u8;
     let last = (row / 0x100 % 0x10) as u8;
-    let mut sub = (row / 0x1000 % 0x10) as u8;
     let mut rest = body;
-    while sub <= last {
+    for sub in first..=last {
         let record = take_record(rest, row, sub);
         let Ok(n) = record else {
             return record;
         };
         rest = &rest[n..];
-        sub += 1;
     }
     Ok(body.len() - rest.len())
 }
@@ -34,15 +33,13 @@ fn take_row(body: &[u8], row: u32) -> Result<usize, Refusal>
 fn walk_rows(body: &[u8], rows: &[u32]) -> Result<usize, Refusal>
     ensures { result ≡ walked (flat_map row_of rows.now) body.now }
 {
-    let mut at: usize = 0;
     let mut rest = body;
-    while at < rows.len() {
-        let row = take_row(rest, rows[at]);
-        let Ok(n) = row else {
-            return row;
+    for row in rows {
+        let records = take_row(rest, *row);
+        let Ok(n) = records else {
+            return records;
         };
         rest = &rest[n..];
-        at += 1;
     }
     Ok(body.len() - rest.len())
 }
@@ -57,8 +54,7 @@ pub fn walk(image: &[u8]) -> Result<usize, Refusal>
     if four_at(image, 0) as usize != EC_VALUE {
         return Err(Refusal::WrongCount);
     }
-    let rows = ROWS;
-    let records = walk_rows(&image[4..], &rows);
+    let records = walk_rows(&image[4..], &ROWS);
     let Ok(n) = records else {
         return records;
     };

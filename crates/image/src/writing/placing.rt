@@ -11,17 +11,10 @@ use roles::widths::width_of;
 
 // So many bytes of a number, low byte first.
 pub fn put_number(image: &mut [u8], at: usize, size: usize, number: u32)
-    requires { at + size ≤ length image.old }
+    requires { (at + size ≤ length image.old) × (size ≤ 4) }
     ensures { image.new ≡ sets image.old at (bytes size number) }
 {
-    let end = at + size;
-    let mut rest = number;
-    let mut place = at;
-    while place < end {
-        image[place] = (rest % 0x100) as u8;
-        rest /= 0x100;
-        place += 1;
-    }
+    image[at..at + size].copy_from_slice(&number.to_le_bytes()[..size]);
 }
 
 // The head of a record: its index, its sub, and how many bytes of data follow.
@@ -38,10 +31,7 @@ fn put_head(image: &mut [u8], at: usize, row: u32, sub: u8, size: u8)
 fn word_at(words: &[u32], slot: usize) -> u32
     ensures { result ≡ get_or words.now slot 0 }
 {
-    if slot < words.len() {
-        return words[slot];
-    }
-    0
+    words.get(slot).copied().unwrap_or(0)
 }
 
 // The record of what a row holds at a sub.
@@ -65,12 +55,11 @@ pub fn write_row(words: &[u32], image: &mut [u8], row: u32, from: Front) -> Fron
     requires { Room (row_of row) from image.old }
     ensures { Placed (row_of row) words.now from image.old image.new result }
 {
+    let first = (row / 0x1000 % 0x10) as u8;
     let last = (row / 0x100 % 0x10) as u8;
-    let mut sub = (row / 0x1000 % 0x10) as u8;
     let mut front = from;
-    while sub <= last {
+    for sub in first..=last {
         front = write_record(words, image, row, sub, front);
-        sub += 1;
     }
     front
 }

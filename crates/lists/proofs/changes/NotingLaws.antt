@@ -31,7 +31,7 @@ module _ {place size : ℕ} {up : Bool} {notes : List ℕ} {n : Noted} where
 -- ---- what one note more changes
 
 -- a store before others may come first
-set_before : (vs l : List ℕ) (i j p : ℕ) → i < j → set (sets l j vs) i p ≡ sets (set l i p) j vs
+pub set_before : (vs l : List ℕ) (i j p : ℕ) → i < j → set (sets l j vs) i p ≡ sets (set l i p) j vs
 set_before [] l i j p h = refl
 set_before (v ∷ vs) l i j p h =
     set_before vs (set l j v) i (suc j) p (omega arith)

@@ -71,13 +71,11 @@ fn note_stretch(
     ensures { Further current.now wanted.now (stretch from to) notes.old had notes.new result }
 {
     let mut n = had;
-    let mut slot = from;
     let mut place = at;
-    while slot < to {
+    for _ in from..to {
         let size = size_at(current, place);
         n = note_one(current, wanted, notes, place, size, n);
         place += 7 + size;
-        slot += 1;
     }
     n
 }

@@ -1,17 +1,15 @@
--- `lists::copying::put_count` meets its contract.
+-- `lists::copying::put_count` meets its contract (`LaidLaws`).
 -- Assumes nothing.
-use mathlib.Core.Path.{refl}
+use mathlib.Core.Path.{ap, ◌∙◌}
 use native.Mathlib.Omega.{arith}
-use lib.ListN.{length-set}
+use lib.ListN.{take}
 use Rattle.octets.specs.Little.{bytes}
+use Rattle.octets.proofs.little.ByteLaws.{bytes_length}
+use Rattle.records.proofs.LaidLaws.{laid, low_four}
 use Rattle.lists.proofs.copying.put_count.Goals as goal
 
-pub bounds-list-1 : goal.bounds-list-1
-bounds-list-1 c = simp length-set (omega arith)
-
-pub bounds-list-2 : goal.bounds-list-2
-bounds-list-2 c = simp length-set (omega arith)
-
 pub returns : goal.returns
-unfolding bytes
-returns c = refl
+returns c =
+    let s = c.args in
+    let long = bytes_length 4 s.count in
+    laid s.list.now 0 {k = 4} (bytes 4 s.count) (c.copy_from_slice.ensures.after ∙ ap (take 4) c.to_le_bytes.ensures ∙ low_four s.count) (omega arith) (omega (arith, c.requires))

@@ -4,7 +4,9 @@ use mathlib.Core.Path.{sym, ◌∙◌}
 use native.Mathlib.Omega.{arith}
 use Rattle.records.specs.Rows.{first_sub, last_sub}
 use Rattle.records.proofs.WalkLaws.{whole_taken, row_start, row_refused, row_on, row_done}
+use Prim.Native.Nat.{◌+◌}
 use Rattle.records.proofs.walking.take_row.Goals as goal
+use Rattle.records.proofs.walking.take_row.Goals.{else-loop-sub-test, then-loop-sub-test+in-Ok+else-sub-last}
 
 pub loop-sub-init : goal.loop-sub-init
 unfolding first_sub last_sub
@@ -27,4 +29,9 @@ loop-sub-preserved c =
     let m = c.loop-sub in (m.invariant.0, row_on _ _ _ _ m.rest.now m.invariant.1.1 c.loop-sub-test.true m.invariant.1.0 (sym c.take_record-record.ensures ∙ c.in-Ok.is))
 
 pub returns : goal.returns
-returns c = let m = c.loop-sub in row_done _ _ _ _ m.rest.now m.invariant.1.1 c.loop-sub-test.false
+returns c =
+    let m = c.loop-sub in
+    elim c.loop-sub-test.branch [
+      | else-loop-sub-test w ↦ rw w.rest-is (row_done _ _ _ _ m.rest.now m.invariant.1.1 w.loop-sub-test.false)
+      | then-loop-sub-test+in-Ok+else-sub-last w ↦ rw w.rest-is (row_done _ _ (m.sub + 1) _ _ (row_on _ _ _ _ m.rest.now m.invariant.1.1 w.loop-sub-test.true m.invariant.1.0 (sym w.take_record-record.ensures ∙ w.in-Ok.is)).1 (omega arith))
+    ]

@@ -10,6 +10,3 @@ use Rattle.records.proofs.walking.take_row.Given as goal
 abbrev pub invariant-loop-sub : goal.invariant-loop-sub
 invariant-loop-sub l =
     (l.last < 16) × ((length l.rest ≤ length l.body) × (walked (row_of l.row) l.body ≡ behind (length l.body - length l.rest) (walked (row_from l.row l.sub (suc l.last - l.sub)) l.rest)))
-
-abbrev pub decreases-loop-sub : goal.decreases-loop-sub
-decreases-loop-sub l = suc l.last - l.sub

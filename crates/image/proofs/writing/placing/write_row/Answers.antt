@@ -22,3 +22,8 @@ shape_of-image c = c.loop-sub.invariant.1.long
 
 pub returns : goal.returns
 returns c = none_left c.loop-sub.invariant.1 (no_sub _ _ _ c.loop-sub-test.false)
+
+pub returns-2 : goal.returns-2
+returns-2 c =
+    let m = c.loop-sub in
+    none_left (left_next m.invariant.1 _ _ (next_sub _ m.sub _ c.loop-sub-test.true) c.write_record-front.ensures) (no_sub _ _ _ (omega arith))

@@ -7,6 +7,3 @@ use Rattle.image.proofs.writing.placing.write_row.Given as goal
 
 abbrev pub invariant-loop-sub : goal.invariant-loop-sub
 invariant-loop-sub l = (l.last < 16) × Left (row_of l.row) (row_from l.row l.sub (suc l.last - l.sub)) l.words l.initial.front l.initial.image l.front l.image
-
-abbrev pub decreases-loop-sub : goal.decreases-loop-sub
-decreases-loop-sub l = suc l.last - l.sub
