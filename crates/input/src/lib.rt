@@ -7,7 +7,7 @@ pub mod turns;
 ghost use Rattle.std.specs.Prelude.{◌≡◌};
 ghost use Rattle.input.specs.Input.{within, out, run_after, clears, kept, process, sensed};
 
-use numbers::exact::{difference, sum, wide};
+use numbers::exact::{difference, sum};
 use numbers::whole_line::{Point, limited};
 use signals::signal::Signal;
 
@@ -45,20 +45,14 @@ const LONGEST: u32 = 65536;
 fn is_within(low: i32, v: i32, high: i32) -> bool
     ensures { result ≡ within low v high }
 {
-    if v < low {
-        return false;
-    }
-    if high < v {
-        return false;
-    }
-    true
+    low <= v && v <= high
 }
 
 fn is_out(s: Settings, sample: i16) -> bool
     ensures { result ≡ out s sample }
 {
     if s.detect {
-        return !is_within(wide(s.start), wide(sample), wide(s.end));
+        return !is_within(i32::from(s.start), i32::from(sample), i32::from(s.end));
     }
     false
 }
@@ -69,7 +63,7 @@ fn does_clear(s: Settings, sample: i16) -> bool
     if s.detect {
         return is_within(
             sum(s.start, s.hysteresis),
-            wide(sample),
+            i32::from(sample),
             difference(s.end, s.hysteresis),
         );
     }
@@ -80,10 +74,7 @@ fn counted(s: Settings, run: u32, sample: i16) -> u32
     ensures { result ≡ run_after s run sample }
 {
     if is_out(s, sample) {
-        if run < LONGEST {
-            return run + 1;
-        }
-        return LONGEST;
+        return run.saturating_add(1).min(LONGEST);
     }
     0
 }
@@ -92,7 +83,7 @@ fn keep(s: Settings, memory: Memory, sample: i16) -> Memory
     ensures { result ≡ kept s memory sample }
 {
     let run = counted(s, memory.run, sample);
-    if (s.delay as u32) < run {
+    if u32::from(s.delay) < run {
         return Memory { run, flagged: true };
     }
     if memory.flagged {

@@ -12,32 +12,30 @@ use dictionary::slots::{
 };
 use numbers::signed::pattern;
 use unit::laying::lay;
-use unit::words::{switched_at, time_at, whole_at};
+use unit::rows::Row;
 
-fn settings_of(unit: &Unit, k: usize) -> Settings
-    requires { k < 4 }
-    ensures { result ≡ settings unit.now (k + 1) }
+fn settings_of(input: Row<'_, 4>) -> Settings
+    ensures { result ≡ settings input.entry.unit.now (input.entry.k + 1) }
 {
     Settings {
-        fv1: whole_at(unit, INPUT_FV1 + k),
-        pv1: whole_at(unit, INPUT_PV1 + k),
-        fv2: whole_at(unit, INPUT_FV2 + k),
-        pv2: whole_at(unit, INPUT_PV2 + k),
-        start: whole_at(unit, SPAN_START + k),
-        end: whole_at(unit, SPAN_END + k),
-        hysteresis: whole_at(unit, HYSTERESIS + k),
-        detect: switched_at(unit, DETECT + k),
-        delay: time_at(unit, DELAY + k),
+        fv1: input.whole(INPUT_FV1),
+        pv1: input.whole(INPUT_PV1),
+        fv2: input.whole(INPUT_FV2),
+        pv2: input.whole(INPUT_PV2),
+        start: input.whole(SPAN_START),
+        end: input.whole(SPAN_END),
+        hysteresis: input.whole(HYSTERESIS),
+        detect: input.switched(DETECT),
+        delay: input.time(DELAY),
     }
 }
 
-fn memory(unit: &Unit, k: usize) -> Memory
-    requires { k < 4 }
-    ensures { result ≡ spec.memory unit.now (k + 1) }
+fn memory(input: Row<'_, 4>) -> Memory
+    ensures { result ≡ spec.memory input.entry.unit.now (input.entry.k + 1) }
 {
     Memory {
-        run: unit[RUNS + k],
-        flagged: unit[FLAGS + k] != 0,
+        run: input.unit[RUNS + input.k],
+        flagged: input.unit[FLAGS + input.k] != 0,
     }
 }
 
@@ -46,27 +44,24 @@ fn remember(unit: &mut Unit, k: usize, memory: Memory)
     ensures { unit.new ≡ spec.remember unit.old (k + 1) memory }
 {
     unit[RUNS + k] = memory.run;
-    if memory.flagged {
-        unit[FLAGS + k] = 1;
-    } else {
-        unit[FLAGS + k] = 0;
-    }
+    unit[FLAGS + k] = u32::from(memory.flagged);
 }
 
 pub fn inputs(unit: &mut Unit, samples: [i16; 4])
     ensures { unit.new ≡ each 4 (λ n. input_turn (get_or samples (n - 1) (pos 0)) n) unit.old }
 {
-    for row in 0..4_u32 {
+    for row in 0..4_u8 {
         let k = row as usize;
         let sample = samples[k];
-        let before = memory(unit, k);
-        let after = sense(settings_of(unit, k), before, sample);
+        let input = Row { unit, k };
+        let before = memory(input);
+        let after = sense(settings_of(input), before, sample);
         let signal = after.signal;
         let next = after.memory;
         unit[SAMPLE + k] = pattern(sample);
         unit[INPUT_PV + k] = pattern(after.reads);
         lay(unit, k, signal);
-        note(unit, k, before.flagged, next.flagged);
+        note(unit, row, before.flagged, next.flagged);
         remember(unit, k, next);
     }
 }

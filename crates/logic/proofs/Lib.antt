@@ -1,1 +1,2 @@
 pub mod LogicLaws
+pub mod OrderedLaws

@@ -2,3 +2,4 @@ pub mod Digits
 pub mod Gathering
 pub mod Logic
 pub mod Logics
+pub mod Ordered

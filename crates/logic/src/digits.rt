@@ -1,11 +1,12 @@
 // Document 02 (vii): the digits of a source, and two whole numbers compared with theirs.
 ghost use Rattle.std.specs.Prelude.{◌≡◌, ◌+◌, ◌-◌, ◌%◌, ◌<◌, pos, ◌*ℤ◌, get_or};
-ghost use Rattle.logic.specs.Digits.{within, y_digits, digits_of, tens, orders, in_same_digits};
+ghost use Rattle.logic.specs.Digits.{within, y_digits, digits_of, tens, in_same_digits};
 
+use crate::compare;
 use dictionary::slots::{
     EC_DIGITS, INPUT_DIGITS, LOGIC_SELECTED, TABLE_ENTRIES, TABLE_Y_DIGITS, Unit,
 };
-use numbers::exact::wide;
+use unit::pairs::Pair;
 use unit::words::byte_at;
 
 // The byte of a number from 1 to the count, the first at a slot; 0 for any other number.
@@ -38,9 +39,10 @@ fn y_digits(unit: &Unit, z: u8) -> u8
 }
 
 // A logic block's are those of the table that it selected with its signal.
-pub fn digits_of(unit: &Unit, source: u8, number: u8) -> u8
-    ensures { result ≡ digits_of unit.now source number }
+pub fn digits_of(unit: &Unit, pair: Pair) -> u8
+    ensures { result ≡ digits_of unit.now pair.source pair.number }
 {
+    let Pair { source, number } = pair;
     match source {
         1 => numbered(unit, EC_DIGITS, 12, number),
         2 => numbered(unit, INPUT_DIGITS, 4, number),
@@ -65,32 +67,11 @@ fn tens(digits: u8) -> i32
 fn scaled(v: i16, digits: u8) -> i32
     ensures { result ≡ v *ℤ pos (tens digits) }
 {
-    wide(v) * tens(digits)
-}
-
-fn order(comparison: u8, x: i32, y: i32) -> bool
-    ensures { result ≡ orders comparison x y }
-{
-    if comparison == 0 {
-        return x == y;
-    }
-    if comparison == 1 {
-        return x != y;
-    }
-    if comparison == 2 {
-        return x > y;
-    }
-    if comparison == 3 {
-        return x >= y;
-    }
-    if comparison == 4 {
-        return x < y;
-    }
-    x <= y
+    i32::from(v) * tens(digits)
 }
 
 pub fn in_same_digits(comparison: u8, v: i16, d: u8, w: i16, e: u8) -> bool
     ensures { result ≡ in_same_digits comparison v d w e }
 {
-    order(comparison, scaled(v, e), scaled(w, d))
+    compare(comparison, scaled(v, e), scaled(w, d))
 }

@@ -9,16 +9,12 @@ use crate::Verdict;
 fn is_both(operator: u8, c: usize) -> bool
     ensures { result ≡ both operator c }
 {
-    if operator == 1 {
-        return true;
+    match operator {
+        1 => true,
+        2 => false,
+        3 => c < 2,
+        _ => c == 2,
     }
-    if operator == 2 {
-        return false;
-    }
-    if operator == 3 {
-        return c < 2;
-    }
-    c == 2
 }
 
 // What is not available counts where all three have to hold.
@@ -50,11 +46,9 @@ pub fn gather(operator: u8, c: usize, so: bool, holds: bool) -> bool
 pub fn settles(operator: u8, so: bool) -> bool
     ensures { result ≡ settled operator so }
 {
-    if operator == 1 {
-        return !so;
+    match operator {
+        1 => !so,
+        2 => so,
+        _ => false,
     }
-    if operator == 2 {
-        return so;
-    }
-    false
 }

@@ -6,7 +6,8 @@ pub mod gathering;
 pub mod turns;
 
 ghost use Rattle.std.specs.Prelude.{◌≡◌};
-ghost use Rattle.logic.specs.Logic.{compares, compared, verdict};
+ghost use Rattle.logic.specs.Logic.{compared, verdict};
+ghost use Rattle.logic.specs.Ordered.{ordered};
 ghost use Rattle.signals.specs.Signal.{as_real};
 
 use signals::reading::{absent, as_real};
@@ -21,25 +22,19 @@ pub enum Verdict {
     NotAvailable,
 }
 
-fn compare(comparison: u8, x: f32, y: f32) -> bool
-    ensures { result ≡ compares comparison x y }
+// Of REAL32, and of whole numbers in the same digits.
+#[tactic(auto, unfolding(crate::specs::Ordered::ordered, numbers::specs::Choice::first))]
+fn compare<T: PartialOrd + Copy>(comparison: u8, x: T, y: T) -> bool
+    ensures { result ≡ ordered T.eq T.partial_cmp comparison x y }
 {
-    if comparison == 0 {
-        return x == y;
+    match comparison {
+        0 => x == y,
+        1 => x != y,
+        2 => x > y,
+        3 => x >= y,
+        4 => x < y,
+        _ => x <= y,
     }
-    if comparison == 1 {
-        return x != y;
-    }
-    if comparison == 2 {
-        return x > y;
-    }
-    if comparison == 3 {
-        return x >= y;
-    }
-    if comparison == 4 {
-        return x < y;
-    }
-    x <= y
 }
 
 // Neither argument is missing here, so one without a number is in error.

@@ -13,30 +13,28 @@ ghost use Rattle.math.specs.Fold as spec;
 use numbers::limits::limit;
 use signals::signal::Signal;
 
-// An input: its signal, scaling 1 and 2, and its gain in per cent.
-#[derive(Clone, Copy)]
-pub struct Operand {
-    pub signal: Signal,
-    pub from: i16,
-    pub to: i16,
-    pub gain: i16,
-}
-
-// 4521h and 4523h.
+// Scaling 1 and 2, of an input or of the block's result.
 #[derive(Clone, Copy)]
 pub struct Ends {
     pub from: i16,
     pub to: i16,
 }
 
-// The running result, and the gain and the scaling ends of the input that joins it. An input in error or a division by zero leaves
+// An input: its signal, its scaling, and its gain in per cent.
+#[derive(Clone, Copy)]
+pub struct Operand {
+    pub signal: Signal,
+    pub ends: Ends,
+    pub gain: i16,
+}
+
+// The running result, and the gain and the scaling of the input that joins it. An input in error or a division by zero leaves
 // `failed` set.
 #[derive(Clone, Copy)]
 pub struct Fold {
     pub run: f32,
     pub gain: i16,
-    pub from: i16,
-    pub to: i16,
+    pub ends: Ends,
     pub failed: bool,
 }
 
@@ -62,22 +60,14 @@ fn larger(run: f32, x: f32) -> f32
 fn operate(operator: u8, run: f32, x: f32) -> f32
     ensures { result ≡ operated operator run x }
 {
-    if operator == 0 {
-        return run + x;
+    match operator {
+        0 => run + x,
+        1 => run - x,
+        2 => run * x,
+        3 => run / x,
+        4 => smaller(run, x),
+        _ => larger(run, x),
     }
-    if operator == 1 {
-        return run - x;
-    }
-    if operator == 2 {
-        return run * x;
-    }
-    if operator == 3 {
-        return run / x;
-    }
-    if operator == 4 {
-        return smaller(run, x);
-    }
-    larger(run, x)
 }
 
 // A zero of either sign: `==` does not see the sign.

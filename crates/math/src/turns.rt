@@ -16,62 +16,62 @@ use signals::reading::{absent, as_real};
 use signals::signal::Signal;
 use unit::laying::lay;
 use unit::pairs::pair_at;
+use unit::rows::Row;
 use unit::sources::look_up;
-use unit::words::{byte_at, switched_at, whole_at};
+use unit::words::{byte_at, whole_at};
 
 // Input i + 1, its signal as REAL32 from the start.
-fn operand(unit: &Unit, k: usize, i: usize) -> Operand
-    requires { (k < 4) × (i < 4) }
-    ensures { result ≡ spec.operand unit.now (k + 1) (i + 1) }
+fn operand(math: Row<'_, 4>, i: usize) -> Operand
+    requires { i < 4 }
+    ensures { result ≡ spec.operand math.entry.unit.now (math.entry.k + 1) (i + 1) }
 {
-    let at = (MATH_ENTRIES as u32 * k as u32) as usize + i;
+    let at = (MATH_ENTRIES as u32 * math.k as u32) as usize + i;
     Operand {
         signal: as_real(look_up(
-            unit,
-            pair_at(unit, OPERAND_SOURCE + at, OPERAND_NUMBER + at),
+            math.unit,
+            pair_at(math.unit, OPERAND_SOURCE + at, OPERAND_NUMBER + at),
         )),
-        from: whole_at(unit, OPERAND_FROM + at),
-        to: whole_at(unit, OPERAND_TO + at),
-        gain: whole_at(unit, OPERAND_GAIN + at),
+        ends: Ends {
+            from: whole_at(math.unit, OPERAND_FROM + at),
+            to: whole_at(math.unit, OPERAND_TO + at),
+        },
+        gain: whole_at(math.unit, OPERAND_GAIN + at),
     }
 }
 
-fn ends(unit: &Unit, k: usize) -> Ends
-    requires { k < 4 }
-    ensures { result ≡ spec.ends unit.now (k + 1) }
+fn ends(math: Row<'_, 4>) -> Ends
+    ensures { result ≡ spec.ends math.entry.unit.now (math.entry.k + 1) }
 {
     Ends {
-        from: whole_at(unit, MATH_FROM + k),
-        to: whole_at(unit, MATH_TO + k),
+        from: math.whole(MATH_FROM),
+        to: math.whole(MATH_TO),
     }
 }
 
 // Inputs 2 to 4 join the run of input 1, one at a time.
-fn combine(unit: &Unit, k: usize, one: Operand) -> Signal
-    requires { k < 4 }
-    ensures { result ≡ ended (spec.ends unit.now (k + 1)) (spec.joined_to unit.now (k + 1) (started one) 3) }
+fn combine(math: Row<'_, 4>, one: Operand) -> Signal
+    ensures { result ≡ ended (spec.ends math.entry.unit.now (math.entry.k + 1)) (spec.joined_to math.entry.unit.now (math.entry.k + 1) (started one) 3) }
 {
     let mut fold = start(one);
     for i in 1..4_u32 {
-        let row = (MATH_ENTRIES as u32 * k as u32) as usize;
-        let operator = byte_at(unit, MATH_OPERATOR + row + i as usize - 1);
-        fold = join(fold, operator, operand(unit, k, i as usize));
+        let row = (MATH_ENTRIES as u32 * math.k as u32) as usize;
+        let operator = byte_at(math.unit, MATH_OPERATOR + row + i as usize - 1);
+        fold = join(fold, operator, operand(math, i as usize));
     }
-    finish(fold, ends(unit, k))
+    finish(fold, ends(math))
 }
 
 // A disabled block looks nothing up.
-fn signal_of(unit: &Unit, k: usize) -> Signal
-    requires { k < 4 }
-    ensures { result ≡ math_signal unit.now (k + 1) }
+fn signal_of(math: Row<'_, 4>) -> Signal
+    ensures { result ≡ math_signal math.entry.unit.now (math.entry.k + 1) }
 {
-    if switched_at(unit, MATH_ENABLE + k) {
-        let one = operand(unit, k, 0);
+    if math.switched(MATH_ENABLE) {
+        let one = operand(math, 0);
         let signal = one.signal;
         if absent(signal) {
             return Signal::Absent;
         }
-        return combine(unit, k, one);
+        return combine(math, one);
     }
     Signal::Absent
 }
@@ -81,7 +81,10 @@ pub fn maths(unit: &mut Unit)
     ensures { unit.new ≡ each 4 math_turn unit.old }
 {
     for k in 0..4_u32 {
-        let signal = signal_of(unit, k as usize);
+        let signal = signal_of(Row {
+            unit,
+            k: k as usize,
+        });
         unit[MATH_VALUE + k as usize] = number_of(as_real(signal));
         lay(unit, 4 + k as usize, signal);
     }

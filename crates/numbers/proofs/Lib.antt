@@ -4,5 +4,6 @@ pub mod Differences
 pub mod ExactLaws
 pub mod OrderLaws
 pub mod Orders
+pub mod Same
 pub mod SignedLaws
 pub mod Tests

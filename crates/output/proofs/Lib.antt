@@ -1,5 +1,6 @@
 pub mod Counts
 pub mod Example
+pub mod Found
 pub mod Lasting
 pub mod MotionLaws
 pub mod OutputLaws

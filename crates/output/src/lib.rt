@@ -8,11 +8,9 @@ pub mod turning;
 pub mod turns;
 
 ghost use Rattle.std.specs.Prelude.{◌≡◌, ◌<◌, ◌≤◌};
-ghost use Rattle.output.specs.Output as spec;
-ghost use Rattle.output.specs.Output.{span, way, rise, fall, reached, equal, alike, advanced, target, rests};
+ghost use Rattle.output.specs.Output.{span, way, rise, fall, reached, advanced, target, rests};
 
-use crate::distances::{distance, lowered, narrow, raised};
-use numbers::exact::wide;
+use crate::distances::{lowered, narrow, raised};
 use numbers::whole_line::{Point, limited};
 
 #[derive(Clone, Copy)]
@@ -43,92 +41,51 @@ pub struct Motion {
     pub used: u16,
 }
 
-fn width(fv1: i16, fv2: i16) -> u32
-    ensures { (result ≡ span fv1 fv2) × (result < 65536) }
+// How far FV2 lies above FV1.
+fn width(fv1: i16, fv2: i16) -> u16
+    ensures { result ≡ span fv1 fv2 }
 {
     if fv1 < fv2 {
-        return distance(fv1, fv2);
+        return fv2.abs_diff(fv1);
     }
     0
 }
 
 // No count is longer than its ramp, so no movement is longer than the width.
-fn movement(ticks: u32, width: u32, ramp: u16) -> u32
-    requires { (width < 65536) × ((0 < ramp) × (ticks ≤ ramp)) }
-    ensures { (result ≡ way ticks width ramp) × (result < 65536) }
+fn movement(ticks: u32, width: u16, ramp: u16) -> u16
+    requires { (0 < ramp) × (ticks ≤ ramp) }
+    ensures { result ≡ way ticks width ramp }
 {
-    ticks * width / ramp as u32
+    (ticks * u32::from(width) / u32::from(ramp)) as u16
 }
 
-fn higher(a: i16, b: i16) -> i16
-    ensures { result ≡ spec.higher a b }
-{
-    if a < b {
-        return b;
-    }
-    a
-}
-
-fn lower(a: i16, b: i16) -> i16
-    ensures { result ≡ spec.lower a b }
-{
-    if a < b {
-        return a;
-    }
-    b
-}
-
-fn climb(start: i16, far: u32, from: i16, to: i16) -> i16
-    requires { far < 65536 }
+fn climb(start: i16, far: u16, from: i16, to: i16) -> i16
     ensures { result ≡ rise start far from to }
 {
     let there = raised(start, far);
-    if there < wide(to) {
-        return higher(from, narrow(there));
+    if there < i32::from(to) {
+        return narrow(there).max(from);
     }
     to
 }
 
-fn sink(start: i16, far: u32, from: i16, to: i16) -> i16
-    requires { far < 65536 }
+fn sink(start: i16, far: u16, from: i16, to: i16) -> i16
     ensures { result ≡ fall start far from to }
 {
     let there = lowered(start, far);
-    if wide(to) < there {
-        return lower(from, narrow(there));
+    if i32::from(to) < there {
+        return narrow(there).min(from);
     }
     to
 }
 
-fn reach(rising: bool, start: i16, far: u32, from: i16, to: i16) -> i16
-    requires { far < 65536 }
+fn reach(rising: bool, start: i16, far: u16, from: i16, to: i16) -> i16
     ensures { result ≡ reached rising start far from to }
 {
     if rising {
         return climb(start, far, from, to);
     }
     sink(start, far, from, to)
-}
-
-fn is_equal(a: i16, b: i16) -> bool
-    ensures { result ≡ equal a b }
-{
-    if a < b {
-        return false;
-    }
-    if b < a {
-        return false;
-    }
-    true
-}
-
-fn is_alike(a: bool, b: bool) -> bool
-    ensures { result ≡ alike a b }
-{
-    if a {
-        return b;
-    }
-    !b
 }
 
 // A command with no count: a rule of 1 to 6 named it, or it stands at its target.
@@ -161,7 +118,7 @@ fn advance(
 {
     let far = movement(ticks, width(s.fv1, s.fv2), ramp);
     let command = reach(rising, start, far, from, to);
-    if is_equal(command, to) {
+    if command == to {
         return rest(to);
     }
     Motion {

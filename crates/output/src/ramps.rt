@@ -7,7 +7,7 @@ ghost use Rattle.output.specs.Output.{in_use, unchanged, counted, begun, ramped}
 ghost use Rattle.output.specs.Outputs as spec;
 ghost use Rattle.output.specs.Outputs.{settings, motion, noted};
 
-use crate::{Motion, Settings, advance, aim, is_alike, is_equal, rest};
+use crate::{Motion, Settings, advance, aim, rest};
 use dictionary::slots::{
     COMMAND, ENABLE_RESPONSE, FAULT_FV, FAULT_MODE, OUTPUT_FV1, OUTPUT_FV2, OUTPUT_PV1, OUTPUT_PV2,
     OVERRIDE_FV, OVERRIDE_RESPONSE, RAMP_COUNT, RAMP_DOWN, RAMP_FV1, RAMP_FV2, RAMP_RISING,
@@ -15,112 +15,92 @@ use dictionary::slots::{
 };
 use numbers::limits::limit;
 use numbers::signed::pattern;
-use unit::words::{byte_at, switched_at, time_at, whole_at};
+use unit::rows::Row;
 
-fn settings_of(unit: &Unit, k: usize) -> Settings
-    requires { k < 4 }
-    ensures { result ≡ settings unit.now (k + 1) }
+fn settings_of(output: Row<'_, 4>) -> Settings
+    ensures { result ≡ settings output.entry.unit.now (output.entry.k + 1) }
 {
     Settings {
-        enable_response: byte_at(unit, ENABLE_RESPONSE + k),
-        override_response: byte_at(unit, OVERRIDE_RESPONSE + k),
-        pv1: whole_at(unit, OUTPUT_PV1 + k),
-        pv2: whole_at(unit, OUTPUT_PV2 + k),
-        fv1: whole_at(unit, OUTPUT_FV1 + k),
-        fv2: whole_at(unit, OUTPUT_FV2 + k),
-        fault_mode: byte_at(unit, FAULT_MODE + k),
-        fault_fv: whole_at(unit, FAULT_FV + k),
-        override_fv: whole_at(unit, OVERRIDE_FV + k),
-        ramp_up: time_at(unit, RAMP_UP + k),
-        ramp_down: time_at(unit, RAMP_DOWN + k),
+        enable_response: output.byte(ENABLE_RESPONSE),
+        override_response: output.byte(OVERRIDE_RESPONSE),
+        pv1: output.whole(OUTPUT_PV1),
+        pv2: output.whole(OUTPUT_PV2),
+        fv1: output.whole(OUTPUT_FV1),
+        fv2: output.whole(OUTPUT_FV2),
+        fault_mode: output.byte(FAULT_MODE),
+        fault_fv: output.whole(FAULT_FV),
+        override_fv: output.whole(OVERRIDE_FV),
+        ramp_up: output.time(RAMP_UP),
+        ramp_down: output.time(RAMP_DOWN),
     }
 }
 
-fn in_use(unit: &Unit, k: usize, rising: bool) -> u16
-    requires { k < 4 }
-    ensures { result ≡ in_use (settings unit.now (k + 1)) rising }
+fn in_use(output: Row<'_, 4>, rising: bool) -> u16
+    ensures { result ≡ in_use (settings output.entry.unit.now (output.entry.k + 1)) rising }
 {
     if rising {
-        return time_at(unit, RAMP_UP + k);
+        return output.time(RAMP_UP);
     }
-    time_at(unit, RAMP_DOWN + k)
+    output.time(RAMP_DOWN)
 }
 
 // A count's direction, ramp, FV1 and FV2 are those of this tick.
-fn is_unchanged(unit: &Unit, k: usize, rising: bool, ramp: u16) -> bool
-    requires { (k < 4) × (get_or unit.now (ramp_count_at + k) 0 ≡ 0 → ⊥) }
-    ensures { result ≡ unchanged (settings unit.now (k + 1)) (motion unit.now (k + 1)) rising ramp }
+fn is_unchanged(output: Row<'_, 4>, rising: bool, ramp: u16) -> bool
+    requires { get_or output.unit.now (ramp_count_at + output.k) 0 ≡ 0 → ⊥ }
+    ensures { result ≡ unchanged (settings output.entry.unit.now (output.entry.k + 1)) (motion output.entry.unit.now (output.entry.k + 1)) rising ramp }
 {
-    if time_at(unit, RAMP_USED + k) != ramp {
+    if output.time(RAMP_USED) != ramp {
         return false;
     }
-    is_alike(switched_at(unit, RAMP_RISING + k), rising)
-        & is_equal(whole_at(unit, RAMP_FV1 + k), whole_at(unit, OUTPUT_FV1 + k))
-        & is_equal(whole_at(unit, RAMP_FV2 + k), whole_at(unit, OUTPUT_FV2 + k))
+    (output.switched(RAMP_RISING) == rising)
+        & (output.whole(RAMP_FV1) == output.whole(OUTPUT_FV1))
+        & (output.whole(RAMP_FV2) == output.whole(OUTPUT_FV2))
 }
 
-fn count_on(unit: &Unit, k: usize, rising: bool, ramp: u16) -> u32
-    requires { (k < 4) × (0 < ramp) }
-    ensures { (result ≡ counted (settings unit.now (k + 1)) (motion unit.now (k + 1)) rising ramp) × (result ≤ ramp) }
+fn count_on(output: Row<'_, 4>, rising: bool, ramp: u16) -> u32
+    requires { 0 < ramp }
+    ensures { (result ≡ counted (settings output.entry.unit.now (output.entry.k + 1)) (motion output.entry.unit.now (output.entry.k + 1)) rising ramp) × (result ≤ ramp) }
 {
-    let count = unit[RAMP_COUNT + k];
+    let count = output.unit[RAMP_COUNT + output.k];
     if count == 0 {
         return 1;
     }
-    if ramp as u32 <= count {
+    if u32::from(ramp) <= count {
         return 1;
     }
-    if is_unchanged(unit, k, rising, ramp) {
+    if is_unchanged(output, rising, ramp) {
         return count + 1;
     }
     1
 }
 
 // The first tick begins where the command stands.
-fn begin(unit: &Unit, k: usize, ticks: u32, from: i16) -> i16
-    requires { (k < 4) × ((ticks ≡ 1 → ⊥) → get_or unit.now (ramp_count_at + k) 0 ≡ 0 → ⊥) }
-    ensures { result ≡ begun (motion unit.now (k + 1)) ticks from }
+fn begin(output: Row<'_, 4>, ticks: u32, from: i16) -> i16
+    requires { (ticks ≡ 1 → ⊥) → get_or output.unit.now (ramp_count_at + output.k) 0 ≡ 0 → ⊥ }
+    ensures { result ≡ begun (motion output.entry.unit.now (output.entry.k + 1)) ticks from }
 {
     if ticks == 1 {
         return from;
     }
-    whole_at(unit, RAMP_START + k)
+    output.whole(RAMP_START)
 }
 
-pub fn ramp(unit: &Unit, k: usize, v: i16) -> Motion
-    requires { k < 4 }
-    ensures { result ≡ ramped (settings unit.now (k + 1)) v (motion unit.now (k + 1)) }
+pub fn ramp(output: Row<'_, 4>, v: i16) -> Motion
+    ensures { result ≡ ramped (settings output.entry.unit.now (output.entry.k + 1)) v (motion output.entry.unit.now (output.entry.k + 1)) }
 {
-    let s = settings_of(unit, k);
-    let from = limit(whole_at(unit, COMMAND + k), s.fv1, s.fv2);
+    let s = settings_of(output);
+    let from = limit(output.whole(COMMAND), s.fv1, s.fv2);
     let to = aim(s, v);
-    if is_equal(from, to) {
+    if from == to {
         return rest(to);
     }
     let rising = from < to;
-    let used = in_use(unit, k, rising);
+    let used = in_use(output, rising);
     if used == 0 {
         return rest(to);
     }
-    let ticks = count_on(unit, k, rising, used);
-    advance(
-        s,
-        ticks,
-        begin(unit, k, ticks, from),
-        from,
-        to,
-        rising,
-        used,
-    )
-}
-
-fn flag(on: bool) -> u32
-    ensures { result ≡ first on 1 0 }
-{
-    if on {
-        return 1;
-    }
-    0
+    let ticks = count_on(output, rising, used);
+    advance(s, ticks, begin(output, ticks, from), from, to, rising, used)
 }
 
 // What a count began with is laid down by its first tick.
@@ -132,10 +112,10 @@ fn note(unit: &mut Unit, k: usize, m: Motion)
         return;
     }
     unit[RAMP_START + k] = pattern(m.start);
-    unit[RAMP_RISING + k] = flag(m.rising);
+    unit[RAMP_RISING + k] = u32::from(m.rising);
     unit[RAMP_FV1 + k] = pattern(m.fv1);
     unit[RAMP_FV2 + k] = pattern(m.fv2);
-    unit[RAMP_USED + k] = m.used as u32;
+    unit[RAMP_USED + k] = u32::from(m.used);
 }
 
 pub fn remember(unit: &mut Unit, k: usize, m: Motion)

@@ -12,72 +12,71 @@ use dictionary::slots::{
     FAULT_FV, FAULT_MODE, OVERRIDE_FV, OVERRIDE_NUMBER, OVERRIDE_RESPONSE, OVERRIDE_SOURCE, Unit,
 };
 use signals::reading::{absent, as_whole, failed};
-use unit::pairs::pair_at;
+use unit::rows::Row;
 use unit::sources::look_up;
-use unit::words::{byte_at, whole_at};
 
-fn fault(unit: &Unit, k: usize) -> i16
-    requires { k < 4 }
-    ensures { result ≡ fault_for unit.now (k + 1) }
+fn fault(output: Row<'_, 4>) -> i16
+    ensures { result ≡ fault_for output.entry.unit.now (output.entry.k + 1) }
 {
-    if byte_at(unit, FAULT_MODE + k) == 0 {
-        return whole_at(unit, COMMAND + k);
+    if output.byte(FAULT_MODE) == 0 {
+        return output.whole(COMMAND);
     }
-    whole_at(unit, FAULT_FV + k)
+    output.whole(FAULT_FV)
 }
 
 // Rules 5 to 7: the control decides.
-fn control(unit: &Unit, k: usize) -> Motion
-    requires { k < 4 }
-    ensures { result ≡ controlled unit.now (k + 1) }
+fn control(output: Row<'_, 4>) -> Motion
+    ensures { result ≡ controlled output.entry.unit.now (output.entry.k + 1) }
 {
-    let signal = look_up(unit, pair_at(unit, CONTROL_SOURCE + k, CONTROL_NUMBER + k));
+    let signal = look_up(output.unit, output.pair(CONTROL_SOURCE, CONTROL_NUMBER));
     if failed(signal) {
-        return rest(fault(unit, k));
+        return rest(fault(output));
     }
     if absent(signal) {
         return rest(0);
     }
-    ramp(unit, k, as_whole(signal))
+    ramp(output, as_whole(signal))
 }
 
 // Rules 3 and 4: the override decides, else the control.
-fn override_or_control(unit: &Unit, k: usize) -> Motion
-    requires { k < 4 }
-    ensures { result ≡ overridden unit.now (k + 1) }
+fn override_or_control(output: Row<'_, 4>) -> Motion
+    ensures { result ≡ overridden output.entry.unit.now (output.entry.k + 1) }
 {
-    let over = look_up(
-        unit,
-        pair_at(unit, OVERRIDE_SOURCE + k, OVERRIDE_NUMBER + k),
-    );
-    if turned_on(byte_at(unit, OVERRIDE_RESPONSE + k), over) {
-        return rest(whole_at(unit, OVERRIDE_FV + k));
+    let over = look_up(output.unit, output.pair(OVERRIDE_SOURCE, OVERRIDE_NUMBER));
+    if turned_on(output.byte(OVERRIDE_RESPONSE), over) {
+        return rest(output.whole(OVERRIDE_FV));
     }
     if failed(over) {
-        return rest(fault(unit, k));
+        return rest(fault(output));
     }
-    control(unit, k)
+    control(output)
 }
 
 // Rules 1 and 2: the enable decides, else the override.
-fn drive(unit: &Unit, k: usize) -> Motion
-    requires { k < 4 }
-    ensures { result ≡ driven_of unit.now (k + 1) }
+fn drive(output: Row<'_, 4>) -> Motion
+    ensures { result ≡ driven_of output.entry.unit.now (output.entry.k + 1) }
 {
-    let enable = look_up(unit, pair_at(unit, ENABLE_SOURCE + k, ENABLE_NUMBER + k));
-    if turned_off(byte_at(unit, ENABLE_RESPONSE + k), enable) {
+    let enable = look_up(output.unit, output.pair(ENABLE_SOURCE, ENABLE_NUMBER));
+    if turned_off(output.byte(ENABLE_RESPONSE), enable) {
         return rest(0);
     }
     if failed(enable) {
-        return rest(fault(unit, k));
+        return rest(fault(output));
     }
-    override_or_control(unit, k)
+    override_or_control(output)
 }
 
 pub fn outputs(unit: &mut Unit)
     ensures { unit.new ≡ each 4 output_turn unit.old }
 {
     for k in 0..4_u32 {
-        remember(unit, k as usize, drive(unit, k as usize));
+        remember(
+            unit,
+            k as usize,
+            drive(Row {
+                unit,
+                k: k as usize,
+            }),
+        );
     }
 }

@@ -15,7 +15,7 @@ use saying::say;
 use std::env::{Env, FillError};
 use telling::tell;
 use why::asking::why;
-use why::types::{TRAIL, Why};
+use why::types::{TRAIL, Untold};
 
 // The output that a word names; 0 where it is no digit.
 fn number_in(word: &[u8]) -> u8 {
@@ -59,12 +59,12 @@ fn main(rt: HostRuntime) {
     hear_all(&mut rt.stdin(), &mut unit);
     let mut trail = [0u8; TRAIL];
     match why(&unit, output, &mut trail) {
-        Why::NoOutput => say(&rt, b"there is no such output: there are 1 to 4\n"),
-        Why::NoTick => say(
+        Err(Untold::NoOutput) => say(&rt, b"there is no such output: there are 1 to 4\n"),
+        Err(Untold::NoTick) => say(
             &rt,
             b"there was no tick since the start or the last accepted write\n",
         ),
-        Why::Told(rule) => {
+        Ok(rule) => {
             tell(&rt, &unit, output, rule, &trail);
             say(&rt, b"done\n");
         }

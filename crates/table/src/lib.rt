@@ -3,47 +3,46 @@
 
 pub mod turns;
 
-ghost use Rattle.std.specs.Prelude.{◌≡◌, ◌<◌, get_or};
+ghost use Rattle.std.specs.Prelude.{◌≡◌, ◌<◌};
 ghost use Rattle.table.specs.Table.{value, interval, curve, looked_up};
 
 use numbers::rounding::nearest;
 use numbers::signed::signed;
 use numbers::whole_line::{Point, line};
 use signals::signal::Signal;
+use unit::words::word_at;
 
 const POINTS: usize = 11;
 
-// A word past the end reads as 0.
-fn word(words: &[u32], k: usize) -> u32
-    ensures { result ≡ get_or words.now k 0 }
-{
-    if k < words.len() {
-        return words[k];
-    }
-    0
+// A table's points: the words of its three entries, as long as they are.
+#[derive(Clone, Copy)]
+pub struct Points<'a> {
+    pub response: &'a [u32],
+    pub x: &'a [u32],
+    pub y: &'a [u32],
 }
 
 fn at(words: &[u32], k: usize) -> i16
     ensures { result ≡ value words.now k }
 {
-    signed(word(words, k))
+    signed(word_at(words, k))
 }
 
 // The curve over the interval that ends at point k.
-fn piece(response: &[u32], x: &[u32], y: &[u32], v: i16, k: usize) -> i16
+fn piece(points: Points<'_>, v: i16, k: usize) -> i16
     requires { 0 < k }
-    ensures { result ≡ interval response.now x.now y.now v k }
+    ensures { result ≡ interval points.entry.response.now points.entry.x.now points.entry.y.now v k }
 {
-    let end = at(y, k);
-    if word(response, k) == 1 {
+    let end = at(points.y, k);
+    if word_at(points.response, k) == 1 {
         let from = Point {
-            x: at(x, k - 1),
-            y: at(y, k - 1),
+            x: at(points.x, k - 1),
+            y: at(points.y, k - 1),
         };
         return line(
             from,
             Point {
-                x: at(x, k),
+                x: at(points.x, k),
                 y: end,
             },
             v,
@@ -53,31 +52,29 @@ fn piece(response: &[u32], x: &[u32], y: &[u32], v: i16, k: usize) -> i16
 }
 
 // One walk over the points: it ends at the first that is not used, or that v does not pass.
-fn curved(response: &[u32], x: &[u32], y: &[u32], v: i16) -> i16
-    ensures { result ≡ curve response.now x.now y.now v }
+fn curved(points: Points<'_>, v: i16) -> i16
+    ensures { result ≡ curve points.entry.response.now points.entry.x.now points.entry.y.now v }
 {
-    if v <= at(x, 0) {
-        return at(y, 0);
+    if v <= at(points.x, 0) {
+        return at(points.y, 0);
     }
-    let mut k: usize = 1;
-    while k < POINTS {
-        if word(response, k) == 0 {
-            return at(y, k - 1);
+    for k in 1..POINTS {
+        if word_at(points.response, k) == 0 {
+            return at(points.y, k - 1);
         }
-        if v <= at(x, k) {
-            return piece(response, x, y, v, k);
+        if v <= at(points.x, k) {
+            return piece(points, v, k);
         }
-        k += 1;
     }
-    at(y, k - 1)
+    at(points.y, POINTS - 1)
 }
 
-pub fn look_up(signal: Signal, response: &[u32], x: &[u32], y: &[u32]) -> Signal
-    ensures { result ≡ looked_up response.now x.now y.now signal }
+pub fn look_up(signal: Signal, points: Points<'_>) -> Signal
+    ensures { result ≡ looked_up points.entry.response.now points.entry.x.now points.entry.y.now signal }
 {
     match signal {
-        Signal::Whole(v) => Signal::Whole(curved(response, x, y, v)),
-        Signal::Real(r) => Signal::Whole(curved(response, x, y, nearest(r))),
+        Signal::Whole(v) => Signal::Whole(curved(points, v)),
+        Signal::Real(r) => Signal::Whole(curved(points, nearest(r))),
         Signal::Error => Signal::Error,
         Signal::Absent => Signal::Absent,
     }

@@ -4,6 +4,7 @@ ghost use Rattle.table.specs.Table.{looked_up};
 ghost use Rattle.table.specs.Tables.{table_signal, table_turn};
 ghost use Rattle.unit.specs.Each.{each};
 
+use crate::Points;
 use dictionary::slots::{
     TABLE_ENTRIES, TABLE_NUMBER, TABLE_RESPONSE, TABLE_SOURCE, TABLE_VALUE, TABLE_X, TABLE_Y, Unit,
 };
@@ -12,6 +13,7 @@ use signals::reading::as_whole;
 use signals::signal::Signal;
 use unit::laying::lay;
 use unit::pairs::pair_at;
+use unit::rows::Row;
 use unit::sources::look_up;
 
 // Eleven words from each of three slots.
@@ -24,17 +26,19 @@ fn curve(unit: &[u32], signal: Signal, response: usize, x: usize, y: usize) -> S
     let y_end = y + 11;
     crate::look_up(
         signal,
-        &unit[response..response_end],
-        &unit[x..x_end],
-        &unit[y..y_end],
+        Points {
+            response: &unit[response..response_end],
+            x: &unit[x..x_end],
+            y: &unit[y..y_end],
+        },
     )
 }
 
-fn signal_of(unit: &Unit, k: usize) -> Signal
-    requires { k < 6 }
-    ensures { result ≡ table_signal unit.now (k + 1) }
+fn signal_of(table: Row<'_, 6>) -> Signal
+    ensures { result ≡ table_signal table.entry.unit.now (table.entry.k + 1) }
 {
-    let row = (TABLE_ENTRIES as u32 * k as u32) as usize;
+    let unit = table.unit;
+    let row = (TABLE_ENTRIES as u32 * table.k as u32) as usize;
     let signal = look_up(unit, pair_at(unit, TABLE_SOURCE + row, TABLE_NUMBER + row));
     curve(
         unit,
@@ -49,7 +53,10 @@ pub fn tables(unit: &mut Unit)
     ensures { unit.new ≡ each 6 table_turn unit.old }
 {
     for k in 0..6_u32 {
-        let signal = signal_of(unit, k as usize);
+        let signal = signal_of(Row {
+            unit,
+            k: k as usize,
+        });
         unit[TABLE_VALUE + k as usize] = pattern(as_whole(signal));
         lay(unit, 8 + k as usize, signal);
     }

@@ -1,4 +1,5 @@
 pub mod Each
+pub mod Flags
 pub mod HeldLaws
 pub mod Slots
 pub mod WordLaws

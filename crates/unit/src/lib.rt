@@ -3,5 +3,6 @@
 
 pub mod laying;
 pub mod pairs;
+pub mod rows;
 pub mod sources;
 pub mod words;

@@ -5,8 +5,8 @@ ghost use Rattle.numbers.specs.Signed.{signed16};
 use dictionary::slots::Unit;
 use numbers::signed::signed;
 
-// Lent as a slice, so that its length is known.
-fn word_at(unit: &[u32], slot: usize) -> u32
+// Of any words: a part of the unit is read so too.
+pub fn word_at(unit: &[u32], slot: usize) -> u32
     ensures { result ≡ get_or unit.now slot 0 }
 {
     unit.get(slot).copied().unwrap_or(0)

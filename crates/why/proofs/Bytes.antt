@@ -38,18 +38,18 @@ unfolding pairs
 twice [] = refl
 twice (p ∷ ps) = omega (arith, twice ps)
 
-pub trail_put : (unit : List ℕ) (p : Pair) {l l₁ l₂ l₃ : List ℕ} {r : Walked} → Followed unit p l l₁ r → l₂ ≡ sets l₁ 7 (r.count ∷ []) → l₃ ≡ sets l₂ (8 + 2 * r.count) (r.end ∷ [])
+pub trail_put : (unit : List ℕ) (p : Pair) {l l₁ l₂ l₃ : List ℕ} {r : Walked} {last : ℕ} → Followed unit p l l₁ r → last ≡ end_number r.end → l₂ ≡ sets l₁ 7 (r.count ∷ []) → l₃ ≡ sets l₂ (8 + 2 * r.count) (last ∷ [])
     → l₃ ≡ sets l 7 (trail_bytes (trail unit p))
 unfolding trail_bytes
-trail_put unit p {l} {l₁} {l₂} {l₃} {r} f count end =
+trail_put unit p {l} {l₁} {l₂} {l₃} {r} {last} f told count end =
     let t = trail unit p in
     let ps = pairs t.steps in
     let e = end_number t.end in
     let c = length t.steps in
     let place : 8 + 2 * r.count ≡ 8 + length ps = omega (arith, twice t.steps, f.count) in
     end
-    ∙ ap (λ (n : ℕ). sets l₂ n (r.end ∷ [])) place
-    ∙ ap (λ (n : ℕ). sets l₂ (8 + length ps) (n ∷ [])) f.end
+    ∙ ap (λ (n : ℕ). sets l₂ n (last ∷ [])) place
+    ∙ ap (λ (n : ℕ). sets l₂ (8 + length ps) (n ∷ [])) (told ∙ ap end_number f.end)
     ∙ ap (λ (m : List ℕ). sets m (8 + length ps) (e ∷ [])) (count ∙ ap (λ (n : ℕ). sets l₁ 7 (n ∷ [])) f.count ∙ ap (λ (m : List ℕ). set m 7 c) f.bytes ∙ before_all l 7 8 c ps (lit< tt))
     ∙ sym (sets_append ps (e ∷ []) (set l 7 c) 8)
 

@@ -17,8 +17,8 @@ use Rattle.why.specs.declared.types.End.TheVariants.{Earlier}
 use Rattle.why.specs.declared.types.Next.{Next}
 use Rattle.why.specs.declared.types.Next.TheVariants.{Ends, Reads}
 use Rattle.unit.specs.declared.pairs.Pair.{Pair}
-use Rattle.why.specs.declared.types.Why.{Why}
-use Rattle.why.specs.declared.types.Why.TheVariants.{NoOutput, NoTick, Told}
+use Rattle.std.specs.Prelude.{Result, Ok, Err}
+use Rattle.why.specs.declared.types.Untold.{Untold}
 use Rattle.why.proofs.Bytes.{twice}
 
 Few : ℕ → Trail → Type 0
@@ -52,7 +52,6 @@ decided_few unit p =
 pub always_fits : AlwaysFits
 unfolding explained
 always_fits unit n = by (answered unit n) where
-  by : (w : Why) → length (explained unit n w) ≤ 43
-  by NoOutput = lit≤ tt
-  by NoTick = lit≤ tt
-  by (Told rule) = decided_few unit (decider unit n rule)
+  by : (w : Result ℕ Untold) → length (explained unit n w) ≤ 43
+  by (Err untold) = lit≤ tt
+  by (Ok rule) = decided_few unit (decider unit n rule)

@@ -8,7 +8,7 @@ use borrow.Author.Tests.{lt-ltb, le-ltb}
 use lib.ListN.{length}
 use lib.Seq.{sets, length-sets}
 use Rattle.numbers.specs.Choice.{first}
-use Rattle.why.specs.Answer.{end_number, pairs, Followed}
+use Rattle.why.specs.Answer.{pairs, Followed}
 use Rattle.why.specs.Seen.{block_of}
 use Rattle.why.specs.Trail.{Trail, next, after, stepped, follow, trail}
 use Rattle.why.specs.declared.types.End.{End}
@@ -28,28 +28,28 @@ pub record Left (unit : List ℕ) (row₀ row i : ℕ) (trail₀ trail : List �
   pub long : length trail ≡ length trail₀
 
 -- all of it
-pub record Walk (unit : List ℕ) (row₀ : ℕ) (trail₀ trail' : List ℕ) (count end : ℕ) : Type 0 where
+pub record Walk (unit : List ℕ) (row₀ : ℕ) (trail₀ trail' : List ℕ) (count : ℕ) (end : End) : Type 0 where
   pub bytes : trail' ≡ sets trail₀ 10 (pairs (follow 16 unit row₀).steps)
   pub counted : count ≡ length (follow 16 unit row₀).steps
-  pub ended : end ≡ end_number (follow 16 unit row₀).end
+  pub ended : end ≡ (follow 16 unit row₀).end
 
 pub begun : (unit : List ℕ) (row : ℕ) (trail : List ℕ) → row < 16 → Left unit row row 0 trail trail
 begun unit row trail h = record { few = omega arith; low = h; bytes = refl; count = omega arith; end = refl; long = refl }
 
 module _ (unit : List ℕ) (row₀ row i : ℕ) (trail₀ trail : List ℕ) (left : Left unit row₀ row i trail₀ trail) where
   -- the walk ends where nothing is left
-  done : (t : Trail) → follow (16 - i) unit row ≡ t → t.steps ≡ [] → Walk unit row₀ trail₀ trail i (end_number t.end)
+  done : (t : Trail) → follow (16 - i) unit row ≡ t → t.steps ≡ [] → Walk unit row₀ trail₀ trail i t.end
   unfolding pairs
   done t is none =
       let no : (follow (16 - i) unit row).steps ≡ [] = ap (λ (s : Trail). s.steps) is ∙ none in
       record {
         bytes = ap (λ (ps : List Pair). sets trail (10 + 2 * i) (pairs ps)) (sym no) ∙ left.bytes;
         counted = omega (arith, ap length no, left.count);
-        ended = ap (λ (s : Trail). end_number s.end) (sym is) ∙ ap end_number left.end;
+        ended = ap (λ (s : Trail). s.end) (sym is) ∙ left.end;
       }
 
-  pub out : 16 ≤ i → Walk unit row₀ trail₀ trail 16 3
-  unfolding follow end_number
+  pub out : 16 ≤ i → Walk unit row₀ trail₀ trail 16 Earlier
+  unfolding follow
   out h =
       let f = left.few in
       let i-is : i ≡ 16 = omega arith in
@@ -61,20 +61,20 @@ module _ (unit : List ℕ) (row₀ row i : ℕ) (trail₀ trail : List ℕ) (lef
     unfolding follow
     turn n e = let fuel : 16 - i ≡ suc (16 - (i + 1)) = omega arith in rw (fuel, e)
 
-    pub ends : (e : End) {n : ℕ} → next unit row ≡ Ends e → n ≡ end_number e → Walk unit row₀ trail₀ trail i n
+    pub ends : (e : End) → next unit row ≡ Ends e → Walk unit row₀ trail₀ trail i e
     unfolding stepped
-    ends e is told = rw told (done (stepped (follow (16 - (i + 1)) unit) row (Ends e)) (turn (Ends e) is) refl)
+    ends e is = (done (stepped (follow (16 - (i + 1)) unit) row (Ends e)) (turn (Ends e) is) refl)
 
     module _ (p : Pair) (is : next unit row ≡ Reads p) (trail' : List ℕ) (put : trail' ≡ sets trail (10 + 2 * i) (p.source ∷ p.number ∷ [])) where
-      pub last : row ≤ block_of p → Walk unit row₀ trail₀ trail' (i + 1) 3
-      unfolding stepped first pairs end_number
+      pub last : row ≤ block_of p → Walk unit row₀ trail₀ trail' (i + 1) Earlier
+      unfolding stepped first pairs
       last h =
           let t : follow (16 - i) unit row ≡ record { steps = p ∷ []; end = Earlier } = turn (Reads p) is ∙ rw (le-ltb (block_of p) row h) in
           let no : (follow (16 - i) unit row).steps ≡ p ∷ [] = ap (λ (s : Trail). s.steps) t in
           record {
             bytes = put ∙ ap (λ (ps : List Pair). sets trail (10 + 2 * i) (pairs ps)) (sym no) ∙ left.bytes;
             counted = omega (arith, ap length no, left.count);
-            ended = ap (λ (s : Trail). end_number s.end) (sym t) ∙ ap end_number left.end;
+            ended = ap (λ (s : Trail). s.end) (sym t) ∙ left.end;
           }
 
       pub onward : block_of p < row → Left unit row₀ (block_of p) (i + 1) trail₀ trail'
@@ -108,5 +108,5 @@ followed unit p row before trail₀ trail' n r is put w c =
           w.bytes ∙ ap (λ (t : Trail). sets trail₀ 10 (pairs t.steps)) same
           ∙ ap (λ (l : List ℕ). sets l 10 (pairs (follow 16 unit (block_of p)).steps)) put;
       count = omega (arith, w.counted, c, ap (λ (t : Trail). length t.steps) same);
-      end = w.ended ∙ ap (λ (t : Trail). end_number t.end) same;
+      end = w.ended ∙ ap (λ (t : Trail). t.end) same;
     }

@@ -1,7 +1,7 @@
 -- What is told of an output: a number, and the bytes of `trail`.
 -- "given the state after a tick and an output number, name the rule (1 to 7), the signal that decided it, and for an error the trail".
 -- Assumes nothing.
-use Rattle.std.specs.Prelude.{ℕ, ◌+◌, ◌%◌, ◌≤◌, Bool, ◌||◌, List, [], ◌∷◌, ◌++◌, eqb, ltb, ℤ, pos, negsuc, length, get_or, ◌≡◌}
+use Rattle.std.specs.Prelude.{ℕ, ◌+◌, ◌%◌, ◌≤◌, Bool, ◌||◌, List, [], ◌∷◌, ◌++◌, eqb, ltb, ℤ, pos, negsuc, length, get_or, ◌≡◌, Result, Ok, Err}
 use Rattle.std.proofs.lemmas.List.Edits.{sets}
 use Rattle.numbers.specs.Choice.{first}
 use Rattle.octets.specs.Little.{bytes}
@@ -17,8 +17,8 @@ use Rattle.unit.specs.declared.pairs.Pair.{Pair}
 use Rattle.why.specs.declared.types.End.{End}
 use Rattle.why.specs.declared.types.End.TheVariants.{Flagged, Divided, Earlier}
 use Rattle.why.specs.declared.types.Walked.{Walked}
-use Rattle.why.specs.declared.types.Why.{Why}
-use Rattle.why.specs.declared.types.Why.TheVariants.{NoOutput, NoTick, Told}
+use Rattle.why.specs.declared.types.Untold.{Untold}
+use Rattle.why.specs.declared.types.Untold.TheVariants.{NoOutput, NoTick}
 
 -- "output number outside 1..4"
 unfoldable pub no_output : ℕ → Bool
@@ -29,14 +29,14 @@ unfoldable pub no_tick : List ℕ → Bool
 no_tick unit = eqb (get_or unit ticked_at 0) 0
 
 -- "Refusals, named: output number outside 1..4; then .. no tick"
-unfoldable pub answered : List ℕ → ℕ → Why
-answered unit n = first (no_output n) NoOutput (first (no_tick unit) NoTick (Told (rule_for unit n)))
+unfoldable pub answered : List ℕ → ℕ → Result ℕ Untold
+answered unit n = first (no_output n) (Err NoOutput) (first (no_tick unit) (Err NoTick) (Ok (rule_for unit n)))
 
 -- the number of each answer
-unfoldable pub number : Why → ℤ
-number NoOutput = negsuc 0
-number NoTick = negsuc 1
-number (Told rule) = pos rule
+unfoldable pub number : Result ℕ Untold → ℤ
+number (Err NoOutput) = negsuc 0
+number (Err NoTick) = negsuc 1
+number (Ok rule) = pos rule
 
 -- "the signal that decided it": rules 1, 2 enable; 3, 4 override; 5 to 7 control
 unfoldable pub decider : List ℕ → ℕ → ℕ → Pair
@@ -83,17 +83,16 @@ unfoldable pub decided : List ℕ → Pair → List ℕ
 decided unit p = signal_bytes unit p (signal unit p)
 
 -- "After a refusal all of `trail` stays."
-unfoldable pub explained : List ℕ → ℕ → Why → List ℕ
-explained unit n NoOutput = []
-explained unit n NoTick = []
-explained unit n (Told rule) = decided unit (decider unit n rule)
+unfoldable pub explained : List ℕ → ℕ → Result ℕ Untold → List ℕ
+explained unit n (Err untold) = []
+explained unit n (Ok rule) = decided unit (decider unit n rule)
 
 -- VALVE_TRAIL bytes are always enough, of any words
 abbrev pub AlwaysFits : Type 0
 AlwaysFits = (unit : List ℕ) (n : ℕ) → length (explained unit n (answered unit n)) ≤ 43
 
 -- what asking leaves: bytes behind these stay
-pub record Explained (unit : List ℕ) (n : ℕ) (trail trail' : List ℕ) (r : Why) : Type 0 where
+pub record Explained (unit : List ℕ) (n : ℕ) (trail trail' : List ℕ) (r : Result ℕ Untold) : Type 0 where
   pub answer : r ≡ answered unit n
   pub bytes : trail' ≡ sets trail 0 (explained unit n (answered unit n))
 
@@ -101,4 +100,4 @@ pub record Explained (unit : List ℕ) (n : ℕ) (trail trail' : List ℕ) (r : 
 pub record Followed (unit : List ℕ) (p : Pair) (trail₀ trail' : List ℕ) (r : Walked) : Type 0 where
   pub bytes : trail' ≡ sets trail₀ 8 (pairs (trail unit p).steps)
   pub count : r.count ≡ length (trail unit p).steps
-  pub end : r.end ≡ end_number (trail unit p).end
+  pub end : r.end ≡ (trail unit p).end

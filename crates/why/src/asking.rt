@@ -11,20 +11,20 @@ ghost use Rattle.why.specs.Trail as steps;
 ghost use Rattle.why.specs.Seen.{block_of};
 
 use crate::seeing::block_of;
-use crate::trailing::follow;
-use crate::types::Why;
+use crate::trailing::{follow, number_of};
+use crate::types::Untold;
 use dictionary::slots::{
     CONTROL_NUMBER, CONTROL_SOURCE, ENABLE_NUMBER, ENABLE_RESPONSE, ENABLE_SOURCE, OVERRIDE_NUMBER,
     OVERRIDE_RESPONSE, OVERRIDE_SOURCE, TICKED, Unit,
 };
 use octets::putting::put;
 use output::turning::{turned_off, turned_on};
-use signals::keeping::{kind_of, number_of};
+use signals::keeping::{kind_of, number_of as number_kept};
 use signals::reading::{absent, failed};
 use signals::signal::Signal;
-use unit::pairs::{Pair, pair_at};
+use unit::pairs::Pair;
+use unit::rows::Row;
 use unit::sources::look_up;
-use unit::words::byte_at;
 
 // ---- the rule
 
@@ -52,25 +52,22 @@ fn rule(enable: Signal, enabling: u8, over: Signal, overriding: u8, control: Sig
     7
 }
 
-fn enable_of(unit: &Unit, k: usize) -> Pair
-    requires { k < 4 }
-    ensures { result ≡ steps.pair unit.now 0x2350 0x2351 (k + 1) }
+fn enable_of(output: Row<'_, 4>) -> Pair
+    ensures { result ≡ steps.pair output.entry.unit.now 0x2350 0x2351 (output.entry.k + 1) }
 {
-    pair_at(unit, ENABLE_SOURCE + k, ENABLE_NUMBER + k)
+    output.pair(ENABLE_SOURCE, ENABLE_NUMBER)
 }
 
-fn override_of(unit: &Unit, k: usize) -> Pair
-    requires { k < 4 }
-    ensures { result ≡ steps.pair unit.now 0x2360 0x2361 (k + 1) }
+fn override_of(output: Row<'_, 4>) -> Pair
+    ensures { result ≡ steps.pair output.entry.unit.now 0x2360 0x2361 (output.entry.k + 1) }
 {
-    pair_at(unit, OVERRIDE_SOURCE + k, OVERRIDE_NUMBER + k)
+    output.pair(OVERRIDE_SOURCE, OVERRIDE_NUMBER)
 }
 
-fn control_of(unit: &Unit, k: usize) -> Pair
-    requires { k < 4 }
-    ensures { result ≡ steps.pair unit.now 0x2340 0x2341 (k + 1) }
+fn control_of(output: Row<'_, 4>) -> Pair
+    ensures { result ≡ steps.pair output.entry.unit.now 0x2340 0x2341 (output.entry.k + 1) }
 {
-    pair_at(unit, CONTROL_SOURCE + k, CONTROL_NUMBER + k)
+    output.pair(CONTROL_SOURCE, CONTROL_NUMBER)
 }
 
 fn signal_of(unit: &Unit, pair: Pair) -> Signal
@@ -79,33 +76,31 @@ fn signal_of(unit: &Unit, pair: Pair) -> Signal
     look_up(unit, pair)
 }
 
-fn rule_of(unit: &Unit, k: usize) -> u8
-    requires { k < 4 }
-    ensures { result ≡ rule_for unit.now (k + 1) }
+fn rule_of(output: Row<'_, 4>) -> u8
+    ensures { result ≡ rule_for output.entry.unit.now (output.entry.k + 1) }
 {
-    let enable = signal_of(unit, enable_of(unit, k));
-    let over = signal_of(unit, override_of(unit, k));
-    let control = signal_of(unit, control_of(unit, k));
+    let enable = signal_of(output.unit, enable_of(output));
+    let over = signal_of(output.unit, override_of(output));
+    let control = signal_of(output.unit, control_of(output));
     rule(
         enable,
-        byte_at(unit, ENABLE_RESPONSE + k),
+        output.byte(ENABLE_RESPONSE),
         over,
-        byte_at(unit, OVERRIDE_RESPONSE + k),
+        output.byte(OVERRIDE_RESPONSE),
         control,
     )
 }
 
-fn decider(unit: &Unit, k: usize, rule: u8) -> Pair
-    requires { k < 4 }
-    ensures { result ≡ spec.decider unit.now (k + 1) rule }
+fn decider(output: Row<'_, 4>, rule: u8) -> Pair
+    ensures { result ≡ spec.decider output.entry.unit.now (output.entry.k + 1) rule }
 {
     if rule < 3 {
-        return enable_of(unit, k);
+        return enable_of(output);
     }
     if rule < 5 {
-        return override_of(unit, k);
+        return override_of(output);
     }
-    control_of(unit, k)
+    control_of(output)
 }
 
 // ---- the bytes
@@ -123,8 +118,8 @@ fn value(signal: Signal) -> u32
     ensures { result ≡ spec.value signal }
 {
     match signal {
-        Signal::Whole(_) => extended(number_of(signal)),
-        Signal::Real(_) => number_of(signal),
+        Signal::Whole(_) => extended(number_kept(signal)),
+        Signal::Real(_) => number_kept(signal),
         Signal::Error => 0,
         Signal::Absent => 0,
     }
@@ -153,7 +148,7 @@ fn put_trail(unit: &Unit, pair: Pair, trail: &mut [u8])
     let walked = follow(unit, pair, trail);
     let count = [walked.count];
     put(trail, 7, &count);
-    let end = [walked.end];
+    let end = [number_of(walked.end)];
     put(trail, 8 + 2 * walked.count as usize, &end);
 }
 
@@ -169,20 +164,23 @@ fn explain(unit: &Unit, pair: Pair, trail: &mut [u8])
 }
 
 // Any words, any number, any buffer: what finds no room in it is left out.
-pub fn why(unit: &Unit, output: u8, trail: &mut [u8]) -> Why
+pub fn why(unit: &Unit, output: u8, trail: &mut [u8]) -> Result<u8, Untold>
     ensures { Explained unit.now output trail.old trail.new result }
 {
     if output == 0 {
-        return Why::NoOutput;
+        return Err(Untold::NoOutput);
     }
     if 4 < output {
-        return Why::NoOutput;
+        return Err(Untold::NoOutput);
     }
     if unit[TICKED] == 0 {
-        return Why::NoTick;
+        return Err(Untold::NoTick);
     }
-    let k = output as usize - 1;
-    let rule = rule_of(unit, k);
-    explain(unit, decider(unit, k, rule), trail);
-    Why::Told(rule)
+    let asked = Row {
+        unit,
+        k: output as usize - 1,
+    };
+    let rule = rule_of(asked);
+    explain(unit, decider(asked, rule), trail);
+    Ok(rule)
 }

@@ -14,38 +14,36 @@ use dictionary::slots::{
 use octets::putting::put;
 use signals::reading::failed;
 use unit::pairs::{Pair, pair_at};
-use unit::words::byte_at;
+use unit::rows::Row;
 
 // Input i + 1 of math k + 1.
-fn math_pair(unit: &Unit, k: usize, i: usize) -> Pair
-    requires { (k < 4) × (i < 4) }
-    ensures { result ≡ spec.math_pair unit.now (k + 1) (i + 1) }
+fn math_pair(math: Row<'_, 4>, i: usize) -> Pair
+    requires { i < 4 }
+    ensures { result ≡ spec.math_pair math.entry.unit.now (math.entry.k + 1) (i + 1) }
 {
-    let at = (MATH_ENTRIES as u32 * k as u32) as usize + i;
-    pair_at(unit, OPERAND_SOURCE + at, OPERAND_NUMBER + at)
+    let at = (MATH_ENTRIES as u32 * math.k as u32) as usize + i;
+    pair_at(math.unit, OPERAND_SOURCE + at, OPERAND_NUMBER + at)
 }
 
 // The X of table k + 1.
-fn table_pair(unit: &Unit, k: usize) -> Pair
-    requires { k < 6 }
-    ensures { result ≡ spec.table_pair unit.now (k + 1) }
+fn table_pair(table: Row<'_, 6>) -> Pair
+    ensures { result ≡ spec.table_pair table.entry.unit.now (table.entry.k + 1) }
 {
-    let at = (TABLE_ENTRIES as u32 * k as u32) as usize;
-    pair_at(unit, TABLE_SOURCE + at, TABLE_NUMBER + at)
+    let at = (TABLE_ENTRIES as u32 * table.k as u32) as usize;
+    pair_at(table.unit, TABLE_SOURCE + at, TABLE_NUMBER + at)
 }
 
 // The table that logic k + 1 selected.
-fn logic_pair(unit: &Unit, k: usize) -> Pair
-    requires { k < 2 }
-    ensures { result ≡ spec.logic_pair unit.now (k + 1) }
+fn logic_pair(logic: Row<'_, 2>) -> Pair
+    ensures { result ≡ spec.logic_pair logic.entry.unit.now (logic.entry.k + 1) }
 {
     Pair {
         source: 3,
-        number: byte_at(unit, LOGIC_SELECTED + k),
+        number: logic.byte(LOGIC_SELECTED),
     }
 }
 
-fn number_of(end: End) -> u8
+pub fn number_of(end: End) -> u8
     ensures { result ≡ end_number end }
 {
     match end {
@@ -56,13 +54,12 @@ fn number_of(end: End) -> u8
 }
 
 // The lowest-numbered input in error, else a division.
-fn math_next(unit: &Unit, k: usize) -> Next
-    requires { k < 4 }
-    ensures { result ≡ math_next unit.now k }
+fn math_next(math: Row<'_, 4>) -> Next
+    ensures { result ≡ math_next math.entry.unit.now math.entry.k }
 {
     for i in 0..4 {
-        let pair = math_pair(unit, k, i);
-        if failed(seen(unit, 4 + k, pair)) {
+        let pair = math_pair(math, i);
+        if failed(seen(math.unit, 4 + math.k, pair)) {
             return Next::Reads(pair);
         }
     }
@@ -77,12 +74,12 @@ fn next(unit: &Unit, row: usize) -> Next
         return Next::Ends(End::Flagged);
     }
     if row < 8 {
-        return math_next(unit, row - 4);
+        return math_next(Row { unit, k: row - 4 });
     }
     if row < 14 {
-        return Next::Reads(table_pair(unit, row - 8));
+        return Next::Reads(table_pair(Row { unit, k: row - 8 }));
     }
-    Next::Reads(logic_pair(unit, row - 14))
+    Next::Reads(logic_pair(Row { unit, k: row - 14 }))
 }
 
 // The deciding pair and the steps behind it, each a source and a number, from place 8 of the trail on. Rows fall, so there are no more
@@ -100,7 +97,7 @@ pub fn follow(unit: &Unit, first: Pair, trail: &mut [u8]) -> Walked
             Next::Ends(end) => {
                 return Walked {
                     count: i as u8 + 1,
-                    end: number_of(end),
+                    end,
                 };
             }
             Next::Reads(pair) => {
@@ -110,12 +107,15 @@ pub fn follow(unit: &Unit, first: Pair, trail: &mut [u8]) -> Walked
                 if row <= block {
                     return Walked {
                         count: i as u8 + 2,
-                        end: 3,
+                        end: End::Earlier,
                     };
                 }
                 row = block;
             }
         }
     }
-    Walked { count: 17, end: 3 }
+    Walked {
+        count: 17,
+        end: End::Earlier,
+    }
 }

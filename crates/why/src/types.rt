@@ -19,17 +19,16 @@ pub enum Next {
     Reads(Pair),
 }
 
-// The number of steps of a trail, and the number of its end.
+// The number of steps of a trail, and how it ends.
 #[derive(Clone, Copy)]
 pub struct Walked {
     pub count: u8,
-    pub end: u8,
+    pub end: End,
 }
 
-// The rule that gave the command, or why none is told.
-#[derive(Clone, Copy)]
-pub enum Why {
+// Why no rule is told.
+#[derive(Clone, Copy, Debug, PartialEq, Eq)]
+pub enum Untold {
     NoOutput,
     NoTick,
-    Told(u8),
 }

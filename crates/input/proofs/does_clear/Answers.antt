@@ -20,7 +20,7 @@ returns-then-s c =
       c.is_within.ensures,
       w.if-s.true,
       sum_is start hysteresis w.sum.ensures,
-      wide_is sample w.wide.ensures,
+      wide_is sample w.from.ensures,
       difference_is end hysteresis c.difference.ensures,
     )
 

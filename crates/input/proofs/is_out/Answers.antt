@@ -18,9 +18,9 @@ returns-then-s c =
     rw (
       c.is_within.ensures,
       w.if-s.true,
-      wide_is f w.wide.ensures,
-      wide_is h w.wide-then-s.ensures,
-      wide_is g w.wide-then-s-2.ensures,
+      wide_is f w.from.ensures,
+      wide_is h w.from-then-s.ensures,
+      wide_is g w.from-then-s-2.ensures,
     )
 
 pub returns : goal.returns

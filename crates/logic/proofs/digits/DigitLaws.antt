@@ -58,48 +58,6 @@ product_fits (negsuc n) f =
     (record { sfits = omega (arith, size_of n 1) }) (record { sfits = omega (arith, size_of n 10) })
     (record { sfits = omega (arith, size_of n 100) }) (record { sfits = omega (arith, size_of n 1000) })
 
--- ---- two numbers are the same, or one is below the other
-below_itself : (a : ℤ) → below a a ≡ false
-unfolding below
-below_itself (pos n) = le-ltb n n (omega arith)
-below_itself (negsuc n) = le-ltb n n (omega arith)
-
-neither_below : (a b : ℤ) → below a b ≡ false → below b a ≡ false → a ≡ b
-unfolding below
-neither_below (pos m) (pos n) e f = ap pos (omega (arith, ltb-false m n e, ltb-false n m f))
-neither_below (pos m) (negsuc n) e f = cc
-neither_below (negsuc m) (pos n) e f = cc
-neither_below (negsuc m) (negsuc n) e f = ap negsuc (omega (arith, ltb-false n m e, ltb-false m n f))
-
-unequal : (a b : ℤ) → below a b ≡ true → a ≡ b → ⊥
-unequal a b e same = let h : true ≡ false = sym e ∙ ap (below a) (sym same) ∙ below_itself a in let z : ◌≡◌ {A = ℕ} 0 1 = cc in omega arith
-
-module _ (a b : ℤ) (f : SFits w32 a) (g : SFits w32 b) where
-  pub same_bits : eqb (of_z w32 a) (of_z w32 b) ≡ (not (below a b) && not (below b a))
-  same_bits = by (below a b) (below b a) refl refl where
-    by : (l r : Bool) → below a b ≡ l → below b a ≡ r → eqb (of_z w32 a) (of_z w32 b) ≡ (not l && not r)
-    by true r e h = ne_eqb _ _ (λ q. unequal a b e (bits_same a b f g q))
-    by false true e h = ne_eqb _ _ (λ q. unequal b a h (sym (bits_same a b f g q)))
-    by false false e h = eq-eqb _ _ (ap (of_z w32) (neither_below a b e h))
-
-  pub other_bits : not (eqb (of_z w32 a) (of_z w32 b)) ≡ (below a b || below b a)
-  other_bits = ap not same_bits ∙ by (below a b) (below b a) where
-    by : (l r : Bool) → not (not l && not r) ≡ (l || r)
-    by true r = refl
-    by false true = refl
-    by false false = refl
-
-  -- the machine's orders of two numbers are those of the numbers
-  pub lt_bits : lt_z (to_z w32 (of_z w32 a)) (to_z w32 (of_z w32 b)) ≡ below a b
-  unfolding below
-  lt_bits = rw (to_z-of_z f, to_z-of_z g)
-
-  pub le_bits : le_z (to_z w32 (of_z w32 a)) (to_z w32 (of_z w32 b)) ≡ not (below b a)
-  le_bits = rw (to_z-of_z f, to_z-of_z g, le_below a b (le_z a b) refl) (twice (le_z a b)) where
-    twice : (t : Bool) → t ≡ not (not t)
-    twice true = refl
-    twice false = refl
-
 -- ---- "a pressure with one digit against a setpoint with two": 12.5 against 1.30 by comparisons 0 to 5; -12.5 against -1.30; 1.5 against 1.50
 abbrev pub all_six : ℤ → ℕ → ℤ → ℕ → List Bool
 all_six v d w e = map (λ c. in_same_digits c v d w e) (0 ∷ 1 ∷ 2 ∷ 3 ∷ 4 ∷ 5 ∷ [])

@@ -1,9 +1,11 @@
 -- `judge`: both numbers are there, or the definition says Error.
 -- Assumes nothing.
 use borrow.Enum.Refused.{opened}
+use mathlib.Core.Path.{◌∙◌}
 use Rattle.numbers.specs.Choice.{first}
 use Rattle.logic.specs.Logic.{compared, compared_to}
 use Rattle.logic.proofs.LogicLaws.{no_left, no_right}
+use Rattle.logic.proofs.OrderedLaws.{of_real}
 use Rattle.logic.proofs.judge.Goals as goal
 
 pub returns-in_default : goal.returns-in_default
@@ -20,11 +22,11 @@ unfolding compared compared_to first
 returns-then-compare c =
     let right = c in
     let left = right in
-    rw (← left.as_real.ensures, left.in-Real.is, ← right.as_real-2.ensures, right.in-Real-as_real.is, ← c.compare.ensures, c.if-compare.true)
+    rw (← left.as_real.ensures, left.in-Real.is, ← right.as_real-2.ensures, right.in-Real-as_real.is, ← (c.compare.ensures ∙ of_real _ _ _), c.if-compare.true)
 
 pub returns : goal.returns
 unfolding compared compared_to first
 returns c =
     let right = c in
     let left = right in
-    rw (← left.as_real.ensures, left.in-Real.is, ← right.as_real-2.ensures, right.in-Real-as_real.is, ← c.compare.ensures, c.if-compare.false)
+    rw (← left.as_real.ensures, left.in-Real.is, ← right.as_real-2.ensures, right.in-Real-as_real.is, ← (c.compare.ensures ∙ of_real _ _ _), c.if-compare.false)

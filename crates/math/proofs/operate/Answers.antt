@@ -1,30 +1,33 @@
--- `operate`: each return by the operator numbers ruled out before it.
+-- Each arm knows the operator.
 -- Assumes nothing.
-use Rattle.numbers.proofs.Tests.{tests}
+use borrow.Author.Tests.{ne_eqb}
 use Rattle.numbers.specs.Choice.{first}
 use Rattle.math.specs.Math.{operated}
 use Rattle.math.proofs.operate.Goals as goal
 
-pub returns-then-operator-eq0 : goal.returns-then-operator-eq0
+pub returns-in-0 : goal.returns-in-0
 unfolding operated first
-returns-then-operator-eq0 c = search tests
+returns-in-0 c = rw c.in-0.is
 
-pub returns-then-operator-eq1 : goal.returns-then-operator-eq1
+pub returns-in-1 : goal.returns-in-1
 unfolding operated first
-returns-then-operator-eq1 c = search tests
+returns-in-1 c = rw c.in-1.is
 
-pub returns-then-operator-eq2 : goal.returns-then-operator-eq2
+pub returns-in-2 : goal.returns-in-2
 unfolding operated first
-returns-then-operator-eq2 c = search tests
+returns-in-2 c = rw c.in-2.is
 
-pub returns-then-operator-eq3 : goal.returns-then-operator-eq3
+pub returns-in-3 : goal.returns-in-3
 unfolding operated first
-returns-then-operator-eq3 c = search tests
+returns-in-3 c = rw c.in-3.is
 
-pub returns-then-operator-eq4 : goal.returns-then-operator-eq4
+pub returns-in-4 : goal.returns-in-4
 unfolding operated first
-returns-then-operator-eq4 c = search tests
+returns-in-4 c = rw c.in-4.is c.smaller.ensures
 
-pub returns : goal.returns
+pub returns-in_default : goal.returns-in_default
 unfolding operated first
-returns c = search tests
+returns-in_default c =
+    let other = c.in_default.in_default-own.rest in
+    let n = c.args.operator in
+    rw (ne_eqb n 0 other.0.0.0.0.1, ne_eqb n 1 other.0.0.0.1, ne_eqb n 2 other.0.0.1, ne_eqb n 3 other.0.1, ne_eqb n 4 other.1) c.larger.ensures

@@ -8,8 +8,9 @@ use Rattle.numbers.specs.Choice.{first}
 use Rattle.numbers.proofs.ExactLaws.{back}
 use Rattle.output.specs.Output.{span, way, reached, equal, rests, advanced}
 use borrow.Author.Rules.{rules}
+use Rattle.output.proofs.Found.{found_equal, found_other}
 use Rattle.output.proofs.advance.Goals as goal
-use Rattle.output.proofs.advance.Goals.{After-is_equal, After-reach-command, After-struct_told-1, After-struct_told-2-1}
+use Rattle.output.proofs.advance.Goals.{After-reach-command, After-struct_told-1, After-struct_told-2-1}
 
 -- what the struct's fields fit, found where little else is in reach
 low_fits : (c : After-struct_told-1) → SFits w16 c.before.args.s.fv1
@@ -24,19 +25,14 @@ command c low high = let t = c.before.before.before in
     let f = t.before.before.ranges in
     back c.reach-command.type_inv
     (c.reach-command.ensures
-    ∙ rw (to_z-of_z f.start, to_z-of_z f.from, to_z-of_z f.to, c.before.movement-far.ensures.0, c.before.before.width.ensures.0, to_z-of_z low, to_z-of_z high))
+    ∙ rw (to_z-of_z f.start, to_z-of_z f.from, to_z-of_z f.to, c.before.movement-far.ensures, c.before.before.width.ensures, to_z-of_z low, to_z-of_z high))
 
-arrived : (c : After-is_equal) → let a = c.args in
-    let far = reached a.rising a.start (way a.ticks (span a.s.fv1 a.s.fv2) a.ramp) a.from a.to in
-    to_z w16 (of_z w16 c.reach-command.result) ≡ far → equal far a.to ≡ c.is_equal.result
-arrived c e = sym (c.is_equal.ensures ∙ rw (e, to_z-of_z c.ranges.to))
-
-pub returns-then-is_equal : goal.returns-then-is_equal
+pub returns-then-command-to : goal.returns-then-command-to
 unfolding advanced first
-returns-then-is_equal c =
-    let at = goal.at.returns-then-is_equal c in
+returns-then-command-to c =
+    let at = goal.at.returns-then-command-to c in
     let e = command at.After-reach-command (low_fits at.After-struct_told-1) (high_fits at.After-struct_told-2-1) in
-    rw (arrived at.After-is_equal e, c.if-is_equal.true)
+    rw (found_equal c.reach-command.result c.args.to c.reach-command.type_inv c.ranges.to.sfits e (to_z-of_z c.ranges.to) c.if-command-to.true)
     (c.rest.ensures ∙ ap rests (to_z-of_z c.ranges.to))
 
 pub returns : goal.returns
@@ -46,4 +42,4 @@ returns c =
     let low = low_fits at.After-struct_told-1 in
     let high = high_fits at.After-struct_told-2-1 in
     let e = command at.After-reach-command low high in
-    rw (arrived at.After-is_equal e, c.if-is_equal.false, e, to_z-of_z c.ranges.start, to_z-of_z low, to_z-of_z high)
+    rw (found_other c.reach-command.result c.args.to c.reach-command.type_inv c.ranges.to.sfits e (to_z-of_z c.ranges.to) c.if-command-to.false, e, to_z-of_z c.ranges.start, to_z-of_z low, to_z-of_z high)

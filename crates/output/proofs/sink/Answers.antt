@@ -8,28 +8,25 @@ use mir.Facts.{to_z-of_z}
 use Rattle.numbers.specs.Choice.{first}
 use Rattle.numbers.specs.Order.{below}
 use Rattle.output.specs.Output.{fall}
+use Rattle.output.proofs.Found.{lower_is}
 use Rattle.numbers.proofs.ExactLaws.{wide_is, lowered_is, back}
 use Rattle.numbers.proofs.OrderLaws.{tested, below_le, down, between_fits}
 use Rattle.output.proofs.sink.Goals as goal
-use Rattle.output.proofs.sink.Goals.{After-lowered-there, Then-wide-there}
+use Rattle.output.proofs.sink.Goals.{After-lowered-there, Then-from-there}
 
 -- the number as the machine reads it
 seen : (c : After-lowered-there) → to_z w32 (of_z w32 c.lowered-there.result) ≡ c.before.args.start -ℤ pos c.before.args.far
-seen c = lowered_is c.before.ranges.start c.before.requires c.lowered-there.ensures
+seen c = lowered_is c.before.ranges.start c.before.ranges.far.fits c.lowered-there.ensures
 
-taken : (c : Then-wide-there) → below c.before.before.before.args.to (c.before.before.before.args.start -ℤ pos c.before.before.before.args.far) ≡ true
-taken c = tested (wide_is c.before.before.before.ranges.to c.before.wide.ensures) (seen c.before.before) c.if-wide-there.true
+taken : (c : Then-from-there) → below c.before.before.before.args.to (c.before.before.before.args.start -ℤ pos c.before.before.before.args.far) ≡ true
+taken c = tested (wide_is c.before.before.before.ranges.to c.before.from.ensures) (seen c.before.before) c.if-from-there.true
 
-pub narrow-requires : goal.narrow-requires
-narrow-requires c =
-    rw (seen (goal.at.narrow-requires c).After-lowered-there) (between_fits c.args.to _ c.args.start c.ranges.to c.ranges.start (below_le _ _ (taken (goal.at.narrow-requires c).Then-wide-there)) (down c.args.start c.args.far))
-
-pub returns-then-wide-there : goal.returns-then-wide-there
+pub returns-then-from-there : goal.returns-then-from-there
 unfolding fall first
-returns-then-wide-there c = let n = c in
-    rw (taken (goal.at.returns-then-wide-there c).Then-wide-there)
-    (back c.lower.type_inv (c.lower.ensures ∙ rw (to_z-of_z n.ranges.from, back n.narrow.type_inv (n.narrow.ensures ∙ seen (goal.at.returns-then-wide-there c).After-lowered-there))))
+returns-then-from-there c = let n = c in
+    rw (taken (goal.at.returns-then-from-there c).Then-from-there)
+    (back c.min.type_inv (c.min.ensures.value ∙ rw (to_z-of_z n.ranges.from, back n.narrow.type_inv (n.narrow.ensures ∙ seen (goal.at.returns-then-from-there c).After-lowered-there)) (lower_is _ _)))
 
 pub returns : goal.returns
 unfolding fall first
-returns c = rw (tested (wide_is c.ranges.to c.wide.ensures) (seen (goal.at.returns c).After-lowered-there) c.if-wide-there.false) (to_z-of_z c.ranges.to)
+returns c = rw (tested (wide_is c.ranges.to c.from.ensures) (seen (goal.at.returns c).After-lowered-there) c.if-from-there.false) (to_z-of_z c.ranges.to)

@@ -7,13 +7,10 @@ use Rattle.output.specs.Output.{span}
 use Rattle.numbers.proofs.OrderLaws.{tested, below_le}
 use Rattle.output.proofs.width.Goals as goal
 
-pub distance-requires : goal.distance-requires
-distance-requires c = below_le _ _ (tested refl refl c.if-fv1-fv2.true)
-
 pub returns-then-fv1-fv2 : goal.returns-then-fv1-fv2
 unfolding span first
-returns-then-fv1-fv2 c = (rw (tested (to_z-of_z c.ranges.fv1) (to_z-of_z c.ranges.fv2) c.if-fv1-fv2.true) (rw (to_z-of_z c.ranges.fv1, to_z-of_z c.ranges.fv2) at c.distance.ensures.0), c.distance.ensures.1)
+returns-then-fv1-fv2 c = rw (tested (to_z-of_z c.ranges.fv1) (to_z-of_z c.ranges.fv2) c.if-fv1-fv2.true) (rw (to_z-of_z c.ranges.fv1, to_z-of_z c.ranges.fv2) at c.abs_diff.ensures)
 
 pub returns : goal.returns
 unfolding span first
-returns c = (rw (tested (to_z-of_z c.ranges.fv1) (to_z-of_z c.ranges.fv2) c.if-fv1-fv2.false), omega arith)
+returns c = rw (tested (to_z-of_z c.ranges.fv1) (to_z-of_z c.ranges.fv2) c.if-fv1-fv2.false)

@@ -7,4 +7,4 @@ use Rattle.table.proofs.at.Goals as goal
 
 pub returns : goal.returns
 unfolding value
-returns c = back c.signed.type_inv (c.signed.ensures ∙ ap signed16 c.word.ensures)
+returns c = back c.signed.type_inv (c.signed.ensures ∙ ap signed16 c.word_at.ensures)

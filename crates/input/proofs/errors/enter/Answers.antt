@@ -1,9 +1,9 @@
 -- The entries before i are moved on: of the new entry and the old ones behind it the first i are stored, and the next one is at hand.
 -- Assumes nothing.
-use Prim.Native.Nat.{ℕ, ◌+◌, ◌*◌, ◌<◌}
+use Prim.Native.Nat.{ℕ, ◌+◌, ◌*◌, ◌<◌, min}
 use native.Mathlib.Numerals.{add-one}
 use mathlib.Core.List.{List}
-use mathlib.Core.Path.{refl, sym, ap, ◌∙◌}
+use mathlib.Core.Path.{◌≡◌, refl, sym, ap, ◌∙◌}
 use native.Mathlib.Omega.{arith}
 use lib.ListN.{length, get_or, length-set}
 use lib.Seq.{get_or-drop}
@@ -32,7 +32,7 @@ loop-i-preserved c =
     let u = start.args.words.now in
     let i = at.i in
     let e = 0xFF00 + 0x10000 * (start.args.k + 1) in
-    let h : 653 + i < length u = omega (arith, start.requires.1) in (
+    let h : 653 + i < length u = omega (arith, start.requires) in (
       omega arith,
       length-set at.words (653 + i) at.next ∙ at.invariant.1,
       rw (at.invariant.2, at.invariant.3) (pushed_on u 653 e i h),
@@ -48,7 +48,9 @@ unfolding unit_size flags_at runs_at signals_at words
 bounds-words-623-2 c = search rules
 
 pub shape_of-words : goal.shape_of-words
-shape_of-words c = length-set c.loop-i.words 623 c.one_more.result ∙ c.loop-i.invariant.1
+shape_of-words c = length-set c.loop-i.words 623 c.min.result ∙ c.loop-i.invariant.1
 
 pub returns : goal.returns
-returns c = let at = c.loop-i in entered_by _ at.words at.i _ _ (omega arith) at.invariant.2 c.one_more.ensures
+returns c = let at = c.loop-i in
+    let kept : c.min.result ≡ min (get_or at.words 623 0 + 1) 8 = omega arith in
+    entered_by _ at.words at.i _ _ (omega arith) at.invariant.2 kept

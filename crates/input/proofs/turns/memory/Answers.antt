@@ -9,6 +9,6 @@ use Rattle.input.proofs.turns.memory.Goals as goal
 
 pub returns : goal.returns
 unfolding memory runs_at flags_at signals_at
-returns c = let k = c.args.k in
+returns c = let k = c.args.input.k in
     let e : k + 1 - 1 ≡ k = omega arith in
     rw e

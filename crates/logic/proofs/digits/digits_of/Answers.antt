@@ -28,5 +28,5 @@ pub returns-in_default : goal.returns-in_default
 unfolding digits_of first has
 returns-in_default c =
     let other = c.in_default.in_default-own.rest in
-    let n = c.args.source in
+    let n = c.args.pair.source in
     rw (ne_eqb n 1 other.0.0.0.1, ne_eqb n 2 other.0.0.1, ne_eqb n 3 other.0.1, ne_eqb n 4 other.1)

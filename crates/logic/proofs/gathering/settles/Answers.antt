@@ -1,18 +1,21 @@
--- `settles`: each return by the operator numbers ruled out before it.
+-- Each arm knows the operator.
 -- Assumes nothing.
-use Rattle.numbers.proofs.Tests.{tests}
+use borrow.Author.Tests.{ne_eqb}
 use Rattle.numbers.specs.Choice.{first}
 use Rattle.logic.specs.Gathering.{settled}
 use Rattle.logic.proofs.gathering.settles.Goals as goal
 
-pub returns-then-operator-eq1 : goal.returns-then-operator-eq1
+pub returns-in-1 : goal.returns-in-1
 unfolding settled first
-returns-then-operator-eq1 c = search tests
+returns-in-1 c = rw c.in-1.is
 
-pub returns-then-operator-eq2 : goal.returns-then-operator-eq2
+pub returns-in-2 : goal.returns-in-2
 unfolding settled first
-returns-then-operator-eq2 c = search tests
+returns-in-2 c = rw c.in-2.is
 
-pub returns : goal.returns
+pub returns-in_default : goal.returns-in_default
 unfolding settled first
-returns c = search tests
+returns-in_default c =
+    let other = c.in_default.in_default-own.rest in
+    let n = c.args.operator in
+    rw (ne_eqb n 1 other.0.1, ne_eqb n 2 other.1)

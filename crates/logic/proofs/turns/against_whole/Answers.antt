@@ -1,5 +1,7 @@
 -- By the second argument: a whole number with its digits, all else as before.
 -- Assumes nothing.
+use Prim.Native.Nat.{◌+◌}
+use mathlib.Core.Path.{◌∙◌}
 use borrow.Author.Rules.{rules}
 use mir.Syntax.{w16}
 use mir.Val.{SFits}
@@ -8,41 +10,40 @@ use Rattle.numbers.specs.Choice.{first}
 use Rattle.signals.specs.Signal.{as_real, whole}
 use Rattle.logic.specs.Logic.{compared, compared_to, verdict, judged}
 use Rattle.logic.specs.Logics.{judged_at}
+use Rattle.logic.proofs.turns.Arguments.{argued, with_digits}
+use Rattle.logic.proofs.OrderedLaws.{of_real}
 use Rattle.logic.proofs.turns.against_whole.Goals as goal
 
 pub returns-in-Whole : goal.returns-in-Whole
 unfolding judged_at judged whole first
 returns-in-Whole c =
-    let digits = c in
-    let known = digits in
-    let second = known in
-    let w : SFits w16 known.in-Whole.w = search rules in
-    let same = rw (to_z-of_z second.ranges.v, to_z-of_z w) at c.in_same_digits.ensures in
+    let u = c.args.asked.unit.now in
+    let at = c.args.asked.at in
+    let w : SFits w16 c.in-Whole.w = search rules in
+    let same = rw (to_z-of_z c.ranges.v, to_z-of_z w) at c.in_same_digits.ensures in
     rw (
-      ← second.argument_at-right.ensures,
-      known.in-Whole.is,
-      ← digits.digits_at-d.ensures,
-      ← c.digits_at-e.ensures,
-      ← c.byte_at.ensures,
+      ← argued u (at + 2) c.right-second.ensures c.look_up-right.ensures,
+      c.in-Whole.is,
+      ← with_digits u at c.left.ensures c.digits_of-d.ensures,
+      ← with_digits u (at + 2) c.right-second.ensures c.digits_of-e.ensures,
+      ← c.comparison.ensures,
       ← same,
     ) c.told.ensures
 
 pub returns-in-Real : goal.returns-in-Real
 unfolding judged_at judged verdict compared compared_to as_real first
 returns-in-Real c =
-    let known = c in
-    let second = known in
     rw (
-      ← second.argument_at-right.ensures,
-      known.in-Real.is,
-      ← c.byte_at-in-Real.ensures,
-      ← rw (to_z-of_z second.ranges.v) at c.compare.ensures,
+      ← argued c.args.asked.unit.now (c.args.asked.at + 2) c.right-second.ensures c.look_up-right.ensures,
+      c.in-Real.is,
+      ← c.comparison-in-Real.ensures,
+      ← ((rw (to_z-of_z c.ranges.v) at c.compare.ensures) ∙ of_real _ _ _),
     ) c.told-in-Real.ensures
 
 pub returns-in-Error : goal.returns-in-Error
 unfolding judged_at judged verdict compared compared_to as_real first
-returns-in-Error c = rw (← c.argument_at-right.ensures, c.in-Error.is)
+returns-in-Error c = rw (← argued c.args.asked.unit.now (c.args.asked.at + 2) c.right-second.ensures c.look_up-right.ensures, c.in-Error.is)
 
 pub returns-in-Absent : goal.returns-in-Absent
 unfolding judged_at judged verdict first
-returns-in-Absent c = rw (← c.argument_at-right.ensures, c.in-Absent.is)
+returns-in-Absent c = rw (← argued c.args.asked.unit.now (c.args.asked.at + 2) c.right-second.ensures c.look_up-right.ensures, c.in-Absent.is)

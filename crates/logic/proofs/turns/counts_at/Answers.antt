@@ -3,4 +3,4 @@
 use Rattle.logic.proofs.turns.counts_at.Goals as goal
 
 pub returns : goal.returns
-returns c = rw (c.does_count.ensures, c.condition_at.ensures)
+returns c = rw (c.does_count.ensures, c.judge_at.ensures)

@@ -10,15 +10,15 @@ use Rattle.unit.specs.Entry.{byte, switched}
 use Rattle.logic.specs.Logics.{first_that_holds, chosen}
 use Rattle.logic.proofs.turns.Folds.{first_here, first_later}
 use Rattle.logic.proofs.turns.selected.Goals as goal
-use Rattle.logic.proofs.turns.selected.Goals.{After-switched_at, Then-switched_at}
+use Rattle.logic.proofs.turns.selected.Goals.{After-switched, Then-switched}
 
 -- 4000h, by its name
-enabled : (c : After-switched_at) → switched c.args.unit.now 0x4000 (c.args.k + 1) ≡ c.switched_at.result
+enabled : (c : After-switched) → switched c.args.logic.unit.now 0x4000 (c.args.logic.k + 1) ≡ c.switched.result
 unfolding switched byte has
-enabled c = rw (array 0x4000 refl c.args.k (omega arith), c.switched_at.ensures)
+enabled c = rw (array 0x4000 refl c.args.logic.k c.args.logic.is_one, c.switched.ensures)
 
-on : (c : Then-switched_at) → switched c.args.unit.now 0x4000 (c.args.k + 1) ≡ true
-on c = enabled c.before ∙ c.if-switched_at.true
+on : (c : Then-switched) → switched c.args.logic.unit.now 0x4000 (c.args.logic.k + 1) ≡ true
+on c = enabled c.before ∙ c.if-switched.true
 
 pub loop-t-init : goal.loop-t-init
 loop-t-init c = (omega arith, refl)
@@ -29,7 +29,7 @@ returns-then-holds_at c =
     let at = c in
     let a = at.args in
     let here = first_here _ _ at.loop-t.t (omega arith) (sym c.holds_at.ensures ∙ c.if-holds_at.true) in
-    rw (on (goal.at.returns-then-holds_at c).Then-switched_at, ← at.loop-t.invariant.1, here, logic_array 0x4001 refl a.k (omega arith) at.loop-t.t (omega arith)) c.byte_at.ensures
+    rw (on (goal.at.returns-then-holds_at c).Then-switched, ← at.loop-t.invariant.1, here, logic_array 0x4001 refl a.logic.k a.logic.is_one at.loop-t.t (omega arith)) c.byte_at.ensures
 
 pub loop-t-preserved : goal.loop-t-preserved
 loop-t-preserved c =
@@ -41,8 +41,8 @@ unfolding chosen first_that_holds first
 returns-after-loop-t c =
     let at = c in
     let all : at.loop-t.t ≡ 3 = omega arith in
-    rw (on (goal.at.returns-after-loop-t c).Then-switched_at, ← at.loop-t.invariant.1, all)
+    rw (on (goal.at.returns-after-loop-t c).Then-switched, ← at.loop-t.invariant.1, all)
 
-pub returns-else-switched_at : goal.returns-else-switched_at
+pub returns-else-switched : goal.returns-else-switched
 unfolding chosen first
-returns-else-switched_at c = rw (enabled (goal.at.returns-else-switched_at c).After-switched_at, c.if-switched_at.false)
+returns-else-switched c = rw (enabled (goal.at.returns-else-switched c).After-switched, c.if-switched.false)

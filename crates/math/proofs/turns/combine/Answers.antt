@@ -19,7 +19,7 @@ unfolding operator byte have
 loop-i-preserved c =
     let before = c.loop-i in
     let i = before.i in
-    let k = c.args.k in (
+    let k = c.args.math.k in (
       omega arith,
       omega arith,
       rw (
@@ -29,7 +29,7 @@ loop-i-preserved c =
         c.byte_at-operator.ensures,
         before.invariant.2,
         joined_more _ _ _ i (omega arith),
-        math_sub 0x4050 refl k (omega arith) i (omega arith) (omega arith),
+        math_sub 0x4050 refl k c.args.math.is_one i (omega arith) (omega arith),
       ),
     )
 

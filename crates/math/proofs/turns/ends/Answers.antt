@@ -11,10 +11,10 @@ use Rattle.math.proofs.turns.ends.Goals as goal
 pub returns : goal.returns
 unfolding ends whole has
 returns c =
-    let k = c.args.k in
+    let k = c.args.math.k in
     rw (
-      array 0x4521 refl k (omega arith),
-      array 0x4523 refl k (omega arith),
-      back c.whole_at.type_inv c.whole_at.ensures,
-      back c.whole_at-2.type_inv c.whole_at-2.ensures,
+      array 0x4521 refl k c.args.math.is_one,
+      array 0x4523 refl k c.args.math.is_one,
+      back c.whole.type_inv c.whole.ensures,
+      back c.whole-2.type_inv c.whole-2.ensures,
     )

@@ -18,4 +18,4 @@ pub returns : goal.returns
 unfolding begun first ramp_start_at
 returns c = let a = c.args in
     let more = c.if-ticks-eq1.false in
-    rw (ne_eqb _ 1 more) (back c.whole_at.type_inv (c.whole_at.ensures ∙ sym (start_is a.unit.now a.k (c.requires.1 more))))
+    rw (ne_eqb _ 1 more) (back c.whole.type_inv (c.whole.ensures ∙ sym (start_is a.output.unit.now a.output.k (c.requires more))))

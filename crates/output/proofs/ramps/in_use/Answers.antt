@@ -13,11 +13,11 @@ use Rattle.output.proofs.ramps.in_use.Goals as goal
 pub returns-then-rising : goal.returns-then-rising
 unfolding in_use settings has first
 returns-then-rising c = let a = c.args in
-    let h : a.k < 4 = omega arith in
-    rw c.if-rising.true (time_is 0x2330 a.unit.now a.k h c.time_at.ensures refl)
+    let h : a.output.k < 4 = a.output.is_one in
+    rw c.if-rising.true (time_is 0x2330 a.output.unit.now a.output.k h c.time.ensures refl)
 
 pub returns : goal.returns
 unfolding in_use settings has first
 returns c = let a = c.args in
-    let h : a.k < 4 = omega arith in
-    rw c.if-rising.false (time_is 0x2331 a.unit.now a.k h c.time_at-2.ensures refl)
+    let h : a.output.k < 4 = a.output.is_one in
+    rw c.if-rising.false (time_is 0x2331 a.output.unit.now a.output.k h c.time-2.ensures refl)

@@ -10,6 +10,7 @@ use mir.Val.{SFits}
 use Rattle.numbers.specs.Choice.{first}
 use Rattle.dictionary.specs.Unit.{ramp_start_at, ramp_rising_at, ramp_fv1_at, ramp_fv2_at, ramp_used_at}
 use Rattle.output.specs.Outputs.{noted}
+use Rattle.unit.proofs.Flags.{flag_is}
 use borrow.Author.Rules.{rules}
 use Rattle.output.proofs.ramps.note.Goals as goal
 use Rattle.output.proofs.ramps.note.Goals.{After-struct_told-1, After-struct_told-2-1, After-struct_told-3-1}
@@ -41,9 +42,11 @@ returns c = let p3 = c in
       eq-eqb _ 1 n.if-m-ne1.false,
       e,
       p.pattern.ensures,
-      g.flag.ensures,
+      g.from.ensures,
+      flag_is c.args.m.rising,
       p2.pattern-2.ensures,
       p3.pattern-3.ensures,
+      c.from-2.ensures,
       to_z-of_z (start_fits (goal.at.returns c).After-struct_told-1),
       to_z-of_z (low_fits (goal.at.returns c).After-struct_told-2-1),
       to_z-of_z (high_fits (goal.at.returns c).After-struct_told-3-1),

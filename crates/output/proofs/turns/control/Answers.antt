@@ -15,17 +15,17 @@ pub returns-then-failed : goal.returns-then-failed
 unfolding controlled first has
 returns-then-failed c =
     let a = c.args in
-    let h : a.k < 4 = omega arith in
-    rw (← looked_up 0x2340 0x2341 a.unit.now a.k h c.pair_at.ensures c.look_up-signal.ensures refl refl, ← c.failed.ensures, c.if-failed.true)
+    let h : a.output.k < 4 = a.output.is_one in
+    rw (← looked_up 0x2340 0x2341 a.output.unit.now a.output.k h c.pair.ensures c.look_up-signal.ensures refl refl, ← c.failed.ensures, c.if-failed.true)
     (c.rest.ensures ∙ ap rests (back c.fault.type_inv c.fault.ensures))
 
 pub returns-then-absent : goal.returns-then-absent
 unfolding controlled first has
 returns-then-absent c =
     let a = c.args in
-    let h : a.k < 4 = omega arith in
+    let h : a.output.k < 4 = a.output.is_one in
     rw (
-      ← looked_up 0x2340 0x2341 a.unit.now a.k h c.pair_at.ensures c.look_up-signal.ensures refl refl,
+      ← looked_up 0x2340 0x2341 a.output.unit.now a.output.k h c.pair.ensures c.look_up-signal.ensures refl refl,
       ← c.failed.ensures,
       c.if-failed.false,
       ← c.absent.ensures,
@@ -36,11 +36,11 @@ pub returns : goal.returns
 unfolding controlled first has
 returns c =
     let a = c.args in
-    let h : a.k < 4 = omega arith in
+    let h : a.output.k < 4 = a.output.is_one in
     c.ramp.ensures
     ∙ rw (
       back c.as_whole.type_inv c.as_whole.ensures,
-      ← looked_up 0x2340 0x2341 a.unit.now a.k h c.pair_at.ensures c.look_up-signal.ensures refl refl,
+      ← looked_up 0x2340 0x2341 a.output.unit.now a.output.k h c.pair.ensures c.look_up-signal.ensures refl refl,
       ← c.failed.ensures,
       c.if-failed.false,
       ← c.absent.ensures,

@@ -14,13 +14,13 @@ use Rattle.output.proofs.turns.drive.Goals as goal
 pub returns-then-turned_off : goal.returns-then-turned_off
 unfolding first has
 returns-then-turned_off c =
-    let u = c.args.unit.now in
-    let k = c.args.k in
-    let h : k < 4 = omega arith in
+    let u = c.args.output.unit.now in
+    let k = c.args.output.k in
+    let h : k < 4 = c.args.output.is_one in
     rw (
       by_enable u (k + 1),
-      ← looked_up 0x2350 0x2351 u k h c.pair_at.ensures c.look_up-enable.ensures refl refl,
-      ← byte_is 0x2352 u k h c.byte_at.ensures refl,
+      ← looked_up 0x2350 0x2351 u k h c.pair.ensures c.look_up-enable.ensures refl refl,
+      ← byte_is 0x2352 u k h c.byte.ensures refl,
       ← c.turned_off.ensures,
       c.if-turned_off.true,
     ) c.rest.ensures
@@ -28,13 +28,13 @@ returns-then-turned_off c =
 pub returns-then-failed : goal.returns-then-failed
 unfolding first has
 returns-then-failed c =
-    let u = c.args.unit.now in
-    let k = c.args.k in
-    let h : k < 4 = omega arith in
+    let u = c.args.output.unit.now in
+    let k = c.args.output.k in
+    let h : k < 4 = c.args.output.is_one in
     rw (
       by_enable u (k + 1),
-      ← looked_up 0x2350 0x2351 u k h c.pair_at.ensures c.look_up-enable.ensures refl refl,
-      ← byte_is 0x2352 u k h c.byte_at.ensures refl,
+      ← looked_up 0x2350 0x2351 u k h c.pair.ensures c.look_up-enable.ensures refl refl,
+      ← byte_is 0x2352 u k h c.byte.ensures refl,
       ← c.turned_off.ensures,
       c.if-turned_off.false,
       ← c.failed.ensures,
@@ -44,13 +44,13 @@ returns-then-failed c =
 pub returns : goal.returns
 unfolding first has
 returns c =
-    let u = c.args.unit.now in
-    let k = c.args.k in
-    let h : k < 4 = omega arith in
+    let u = c.args.output.unit.now in
+    let k = c.args.output.k in
+    let h : k < 4 = c.args.output.is_one in
     rw (
       by_enable u (k + 1),
-      ← looked_up 0x2350 0x2351 u k h c.pair_at.ensures c.look_up-enable.ensures refl refl,
-      ← byte_is 0x2352 u k h c.byte_at.ensures refl,
+      ← looked_up 0x2350 0x2351 u k h c.pair.ensures c.look_up-enable.ensures refl refl,
+      ← byte_is 0x2352 u k h c.byte.ensures refl,
       ← c.turned_off.ensures,
       c.if-turned_off.false,
       ← c.failed.ensures,

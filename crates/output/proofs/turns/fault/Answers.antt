@@ -12,18 +12,18 @@ use Rattle.output.specs.Rules.{fault_for}
 use Rattle.unit.proofs.WordLaws.{byte_is, whole_is}
 use Rattle.output.proofs.turns.fault.Goals as goal
 
-pub returns-then-byte_at-eq0 : goal.returns-then-byte_at-eq0
+pub returns-then-byte-eq0 : goal.returns-then-byte-eq0
 unfolding fault_for fault_of settings has first
-returns-then-byte_at-eq0 c = let a = c.args in
-    let u = a.unit.now in
-    let k = a.k in
-    let h : k < 4 = omega arith in
-    rw (← byte_is 0x6340 u k h c.byte_at.ensures refl, c.if-byte_at-eq0.true) (whole_is 0x7330 u k h c.whole_at.type_inv c.whole_at.ensures refl)
+returns-then-byte-eq0 c = let a = c.args in
+    let u = a.output.unit.now in
+    let k = a.output.k in
+    let h : k < 4 = a.output.is_one in
+    rw (← byte_is 0x6340 u k h c.byte.ensures refl, c.if-byte-eq0.true) (whole_is 0x7330 u k h c.whole.type_inv c.whole.ensures refl)
 
 pub returns : goal.returns
 unfolding fault_for fault_of settings has first
 returns c = let a = c.args in
-    let u = a.unit.now in
-    let k = a.k in
-    let h : k < 4 = omega arith in
-    rw (← byte_is 0x6340 u k h c.byte_at.ensures refl, ne_eqb _ 0 c.if-byte_at-eq0.false) (whole_is 0x7341 u k h c.whole_at-2.type_inv c.whole_at-2.ensures refl)
+    let u = a.output.unit.now in
+    let k = a.output.k in
+    let h : k < 4 = a.output.is_one in
+    rw (← byte_is 0x6340 u k h c.byte.ensures refl, ne_eqb _ 0 c.if-byte-eq0.false) (whole_is 0x7341 u k h c.whole-2.type_inv c.whole-2.ensures refl)

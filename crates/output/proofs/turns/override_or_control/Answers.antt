@@ -14,25 +14,25 @@ use Rattle.output.proofs.turns.override_or_control.Goals as goal
 pub returns-then-turned_on : goal.returns-then-turned_on
 unfolding overridden first has
 returns-then-turned_on c =
-    let u = c.args.unit.now in
-    let k = c.args.k in
-    let h : k < 4 = omega arith in
+    let u = c.args.output.unit.now in
+    let k = c.args.output.k in
+    let h : k < 4 = c.args.output.is_one in
     rw (
-      ← looked_up 0x2360 0x2361 u k h c.pair_at.ensures c.look_up-over.ensures refl refl,
-      ← byte_is 0x2362 u k h c.byte_at.ensures refl,
+      ← looked_up 0x2360 0x2361 u k h c.pair.ensures c.look_up-over.ensures refl refl,
+      ← byte_is 0x2362 u k h c.byte.ensures refl,
       ← c.turned_on.ensures,
       c.if-turned_on.true,
-    ) (c.rest.ensures ∙ ap rests (whole_is 0x2300 u k h c.whole_at.type_inv c.whole_at.ensures refl))
+    ) (c.rest.ensures ∙ ap rests (whole_is 0x2300 u k h c.whole.type_inv c.whole.ensures refl))
 
 pub returns-then-failed : goal.returns-then-failed
 unfolding overridden first has
 returns-then-failed c =
-    let u = c.args.unit.now in
-    let k = c.args.k in
-    let h : k < 4 = omega arith in
+    let u = c.args.output.unit.now in
+    let k = c.args.output.k in
+    let h : k < 4 = c.args.output.is_one in
     rw (
-      ← looked_up 0x2360 0x2361 u k h c.pair_at.ensures c.look_up-over.ensures refl refl,
-      ← byte_is 0x2362 u k h c.byte_at.ensures refl,
+      ← looked_up 0x2360 0x2361 u k h c.pair.ensures c.look_up-over.ensures refl refl,
+      ← byte_is 0x2362 u k h c.byte.ensures refl,
       ← c.turned_on.ensures,
       c.if-turned_on.false,
       ← c.failed.ensures,
@@ -42,12 +42,12 @@ returns-then-failed c =
 pub returns : goal.returns
 unfolding overridden first has
 returns c =
-    let u = c.args.unit.now in
-    let k = c.args.k in
-    let h : k < 4 = omega arith in
+    let u = c.args.output.unit.now in
+    let k = c.args.output.k in
+    let h : k < 4 = c.args.output.is_one in
     rw (
-      ← looked_up 0x2360 0x2361 u k h c.pair_at.ensures c.look_up-over.ensures refl refl,
-      ← byte_is 0x2362 u k h c.byte_at.ensures refl,
+      ← looked_up 0x2360 0x2361 u k h c.pair.ensures c.look_up-over.ensures refl refl,
+      ← byte_is 0x2362 u k h c.byte.ensures refl,
       ← c.turned_on.ensures,
       c.if-turned_on.false,
       ← c.failed.ensures,

@@ -9,5 +9,6 @@ use Rattle.why.proofs.asking.enable_of.Goals as goal
 
 pub returns : goal.returns
 unfolding pair byte has
-returns c = let k = c.args.k in
-    rw (array 0x2350 refl k (omega arith), array 0x2351 refl k (omega arith)) c.pair_at.ensures
+returns c = let k = c.args.output.k in
+    let h = c.args.output.is_one in
+    rw (array 0x2350 refl k h, array 0x2351 refl k h) c.pair.ensures

@@ -4,4 +4,4 @@ use Rattle.why.proofs.Bytes.{trail_put}
 use Rattle.why.proofs.asking.put_trail.Goals as goal
 
 pub returns : goal.returns
-returns c = trail_put _ _ c.follow-walked.ensures c.put.ensures c.put-2.ensures
+returns c = trail_put _ _ c.follow-walked.ensures c.number_of.ensures c.put.ensures c.put-2.ensures

@@ -15,11 +15,11 @@ use Rattle.why.proofs.asking.rule_of.Goals as goal
 pub returns : goal.returns
 unfolding rule_for rule_of settings control enable override signal pair has
 returns c = let a = c.args in
-    let h : a.k < 4 = omega arith in
+    let h : a.output.k < 4 = a.output.is_one in
     c.rule.ensures
     ∙ rw (
-      byte_is 0x2362 a.unit.now a.k h c.byte_at-2.ensures refl,
-      byte_is 0x2352 a.unit.now a.k h c.byte_at.ensures refl,
+      byte_is 0x2362 a.output.unit.now a.output.k h c.byte-2.ensures refl,
+      byte_is 0x2352 a.output.unit.now a.output.k h c.byte.ensures refl,
       c.signal_of-control.ensures,
       c.control_of.ensures,
       c.signal_of-over.ensures,

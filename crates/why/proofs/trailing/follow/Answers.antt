@@ -13,7 +13,7 @@ returns-in-Ends c =
     let unit = s.args.unit.now in
     let l = m.loop-i in
     followed unit s.args.first _ s.args.trail.now _ _ l.i _ m.block_of-row.ensures m.put.ensures
-    (ends unit _ l.row l.i _ l.trail l.invariant c.loop-i-test.true _ (sym c.next-next.ensures ∙ c.in-Ends.is) c.number_of.ensures) refl
+    (ends unit _ l.row l.i _ l.trail l.invariant c.loop-i-test.true _ (sym c.next-next.ensures ∙ c.in-Ends.is)) refl
 
 pub returns-then-row-block : goal.returns-then-row-block
 returns-then-row-block c =

@@ -9,4 +9,4 @@ use Rattle.why.proofs.trailing.logic_pair.Goals as goal
 
 pub returns : goal.returns
 unfolding logic_pair has
-returns c = rw (byte_is 0x4010 c.args.unit.now c.args.k (omega arith) c.byte_at.ensures refl)
+returns c = rw (byte_is 0x4010 c.args.logic.unit.now c.args.logic.k c.args.logic.is_one c.byte.ensures refl)

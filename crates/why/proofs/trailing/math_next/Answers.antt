@@ -14,11 +14,11 @@ use Rattle.why.proofs.trailing.math_next.Goals.{After-failed}
 -- what was tested
 is : (s : After-failed) → let m = s.before.before.before.before in
     let a = m.before.args in
-    wrong a.unit.now a.k (m.loop-i.i + 1) ≡ s.failed.result
+    wrong a.math.unit.now a.math.k (m.loop-i.i + 1) ≡ s.failed.result
 unfolding wrong
 is s = let m = s.before.before.before.before in
     let a = m.before.args in
-    sym (s.failed.ensures ∙ ap is_error (s.before.seen.ensures ∙ ap (saw a.unit.now (4 + a.k)) s.before.before.math_pair-pair.ensures))
+    sym (s.failed.ensures ∙ ap is_error (s.before.seen.ensures ∙ ap (saw a.math.unit.now (4 + a.math.k)) s.before.before.math_pair-pair.ensures))
 
 pub loop-i-init : goal.loop-i-init
 unfolding lowest
@@ -27,13 +27,13 @@ loop-i-init c = (omega arith, refl)
 pub returns-then-failed : goal.returns-then-failed
 returns-then-failed c = let m = c in
     let a = m.args in
-    ap Reads c.math_pair-pair.ensures ∙ hit a.unit.now a.k m.loop-i.i m.loop-i.invariant.1 (omega arith) (is (goal.at.returns-then-failed c).After-failed ∙ c.if-failed.true)
+    ap Reads c.math_pair-pair.ensures ∙ hit a.math.unit.now a.math.k m.loop-i.i m.loop-i.invariant.1 (omega arith) (is (goal.at.returns-then-failed c).After-failed ∙ c.if-failed.true)
 
 pub loop-i-preserved : goal.loop-i-preserved
 loop-i-preserved c = let m = c in
     let a = m.args in
-    (omega arith, miss a.unit.now a.k m.loop-i.i m.loop-i.invariant.1 (omega arith) (is (goal.at.loop-i-preserved c).After-failed ∙ c.if-failed.false))
+    (omega arith, miss a.math.unit.now a.math.k m.loop-i.i m.loop-i.invariant.1 (omega arith) (is (goal.at.loop-i-preserved c).After-failed ∙ c.if-failed.false))
 
 pub returns : goal.returns
 returns c = let m = c in
-    none m.args.unit.now m.args.k m.loop-i.i m.loop-i.invariant.1 m.loop-i.invariant.0 (omega arith)
+    none m.args.math.unit.now m.args.math.k m.loop-i.i m.loop-i.invariant.1 m.loop-i.invariant.0 (omega arith)

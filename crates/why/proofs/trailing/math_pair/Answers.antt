@@ -10,4 +10,4 @@ use Rattle.why.proofs.trailing.math_pair.Goals as goal
 pub returns : goal.returns
 unfolding math_pair pair byte have
 returns c = let a = c.args in
-    rw (math_array 0x4000 refl a.k (omega arith) a.i (omega arith), math_array 0x4001 refl a.k (omega arith) a.i (omega arith)) c.pair_at.ensures
+    rw (math_array 0x4000 refl a.math.k a.math.is_one a.i (omega arith), math_array 0x4001 refl a.math.k a.math.is_one a.i (omega arith)) c.pair_at.ensures

@@ -10,4 +10,4 @@ use Rattle.why.proofs.trailing.table_pair.Goals as goal
 pub returns : goal.returns
 unfolding table_pair pair byte have
 returns c = let a = c.args in
-    rw (table_var 0x3000 refl a.k (omega arith), table_var 0x3001 refl a.k (omega arith)) c.pair_at.ensures
+    rw (table_var 0x3000 refl a.table.k a.table.is_one, table_var 0x3001 refl a.table.k a.table.is_one) c.pair_at.ensures

@@ -1,7 +1,0 @@
--- Within the slice its word, past it 0.
-use mathlib.Core.Path.{sym}
-use lib.ListN.{get_or-eq_default}
-use Rattle.table.proofs.word.Goals as goal
-
-pub returns : goal.returns
-returns c = sym (get_or-eq_default c.args.words.now 0 c.if-k-words.false)
