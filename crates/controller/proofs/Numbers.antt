@@ -140,10 +140,10 @@ number e = record { is = e }
 -- an input as the block reads it: two scaling ends that differ
 pub record Sound (input : Operand) : Type 0 where
   pub signal : Kept input.signal
-  pub from : SFits w16 input.from
-  pub to : SFits w16 input.to
+  pub from : SFits w16 input.ends.from
+  pub to : SFits w16 input.ends.to
   pub gain : SFits w16 input.gain
-  pub order : below input.from input.to ≡ true
+  pub order : below input.ends.from input.ends.to ≡ true
 
 not_zero : (x : Float) → T (finite x) → eq x math.zero ≡ false → Divisor x
 unfolding eq of_bits
@@ -166,18 +166,18 @@ read error = error
 read absent = absent
 
 module _ (input : Operand) (h : Sound input) where
-  scaled_finite : (v : Float) → Number v → T (finite (scaled v input.from input.to input.gain))
+  scaled_finite : (v : Float) → Number v → T (finite (scaled v input.ends.from input.ends.to input.gain))
   unfolding scaled of_bits
   scaled_finite v n =
-      let from = math.whole input.from in
+      let from = math.whole input.ends.from in
       let shift = sub binary32 v from in
-      let width = sub binary32 (math.whole input.to) from in
+      let width = sub binary32 (math.whole input.ends.to) from in
       let part = div binary32 shift width in
       let factor = div binary32 (math.whole input.gain) math.hundred in
-      let divisor = whole_divisor input.from input.to h.from h.to h.order in
+      let divisor = whole_divisor input.ends.from input.ends.to h.from h.to h.order in
       near_finite 328 (mul binary32 (limit_real part math.zero math.one) factor)
       (product_near 1 328 (lit≤ tt) (limit_real part math.zero math.one) factor
-      (limited_near part math.zero (divided shift width (taken v from n (whole_finite input.from h.from)) divisor) none)
+      (limited_near part math.zero (divided shift width (taken v from n (whole_finite input.ends.from h.from)) divisor) none)
       (hundredth_near input.gain h.gain))
 
   starts_going : {s : Signal} → Kept s → Going (starts input s)
@@ -213,7 +213,7 @@ module _ (input : Operand) (h : Sound input) where
   joins_going : (operator : ℕ) (run : Running) → Going run → {s : Signal} → Kept s → Going (joins operator input run s)
   unfolding joins
   joins_going operator run f (whole k) = f
-  joins_going operator run f (real {x} k e) = operated_going operator (scaled x input.from input.to input.gain) (scaled_finite x (number e)) run f
+  joins_going operator run f (real {x} k e) = operated_going operator (scaled x input.ends.from input.ends.to input.gain) (scaled_finite x (number e)) run f
   joins_going operator run f error = tt
   joins_going operator run f absent = f
 

@@ -59,7 +59,6 @@ unfoldable pub operand_seen : List ℕ → List ℕ → ℕ → ℕ → Operand
 operand_seen before after k i =
     record {
       signal = as_real (seen before after (maths + k) (byte after (of_math 0x4000 (k + 1)) i) (byte after (of_math 0x4001 (k + 1)) i));
-      from = whole after (of_math 0x4020 (k + 1)) i;
-      to = whole after (of_math 0x4022 (k + 1)) i;
+      ends = record { from = whole after (of_math 0x4020 (k + 1)) i; to = whole after (of_math 0x4022 (k + 1)) i };
       gain = whole after (of_math 0x4040 (k + 1)) i;
     }

@@ -22,7 +22,7 @@ use sdo::serving::serve;
 use sdo::types::Answer;
 use unit::words::{byte_at, whole_at};
 use why::asking::why;
-use why::types::{TRAIL, Why};
+use why::types::{TRAIL, Untold};
 
 pub fn valve_start(unit: &mut Unit)
     ensures { unit.new ≡ at_start }
@@ -89,8 +89,10 @@ pub fn valve_why(unit: &Unit, output: u8, trail: &mut [u8; TRAIL]) -> i32
 {
     let answer = why(unit, output, trail);
     match answer {
-        Why::NoOutput => -1,
-        Why::NoTick => -2,
-        Why::Told(rule) => rule as i32,
+        Ok(rule) => i32::from(rule),
+        Err(untold) => match untold {
+            Untold::NoOutput => -1,
+            Untold::NoTick => -2,
+        },
     }
 }

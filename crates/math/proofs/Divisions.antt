@@ -32,10 +32,10 @@ begins a right there e = by a.signal right there e where
   by Absent r t e = let z : ◌≡◌ {A = ℕ} 0 1 = cc in omega arith
 
 divides : (operator : ℕ) (input : Operand) (x : Float) (t : Bool) {next : Running} → as_real input.signal ≡ Real x
-    → (eqb operator 3 && eq (scaled x input.from input.to input.gain) zero) ≡ t → (next ≡ broken → ⊥) → first t broken next ≡ broken → Divides operator input
+    → (eqb operator 3 && eq (scaled x input.ends.from input.ends.to input.gain) zero) ≡ t → (next ≡ broken → ⊥) → first t broken next ≡ broken → Divides operator input
 unfolding first
 divides operator input x true is q sound e =
-    let both = (and-eq-true_iff (eqb operator 3) (eq (scaled x input.from input.to input.gain) zero)).0 q in
+    let both = (and-eq-true_iff (eqb operator 3) (eq (scaled x input.ends.from input.ends.to input.gain) zero)).0 q in
     record { by = eqb-true operator 3 both.0; number = x; is = is; none = both.1 }
 divides operator input x false is q sound e = absurd (sound e)
 

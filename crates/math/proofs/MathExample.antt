@@ -15,7 +15,7 @@ use Rattle.math.specs.declared.Ends.{Ends}
 
 -- an input at its default scaling and gain
 abbrev from : Signal → Operand
-from s = record { signal = s; from = pos 0; to = pos 1000; gain = pos 100 }
+from s = record { signal = s; ends = record { from = pos 0; to = pos 1000 }; gain = pos 100 }
 
 abbrev thousand : Ends
 thousand = record { from = pos 0; to = pos 1000 }

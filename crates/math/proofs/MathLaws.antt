@@ -24,8 +24,8 @@ taken fold (at run) = refl
 taken fold broken = refl
 
 -- a fold that takes its own running result up stays as it is
-marked : (fold : Fold) {t : Bool} → fold.failed ≡ t → record { run = fold.run; gain = fold.gain; from = fold.from; to = fold.to; failed = t } ≡ fold
-marked fold e = ap (λ (t : Bool). record { run = fold.run; gain = fold.gain; from = fold.from; to = fold.to; failed = t }) (sym e)
+marked : (fold : Fold) {t : Bool} → fold.failed ≡ t → record { run = fold.run; gain = fold.gain; ends = fold.ends; failed = t } ≡ fold
+marked fold e = ap (λ (t : Bool). record { run = fold.run; gain = fold.gain; ends = fold.ends; failed = t }) (sym e)
 
 pub unchanged : (fold : Fold) → resumed fold (running fold) ≡ fold
 unfolding running resumed first

@@ -13,7 +13,7 @@ pub record Divides (operator : ℕ) (input : Operand) : Type 0 where
   pub by : operator ≡ 3
   pub number : Float
   pub is : as_real input.signal ≡ Real number
-  pub none : eq (scaled number input.from input.to input.gain) zero ≡ true
+  pub none : eq (scaled number input.ends.from input.ends.to input.gain) zero ≡ true
 
 -- a block in error while none of its inputs is: one of inputs 2 to 4 divides by zero
 abbrev pub ByDivision : Type 0

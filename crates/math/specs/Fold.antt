@@ -13,13 +13,13 @@ running fold = first fold.failed broken (at fold.run)
 
 -- the same fold with another running result; a broken one keeps the f32 that it had
 unfoldable pub resumed : Fold → Running → Fold
-resumed fold (at run) = record { run = run; gain = fold.gain; from = fold.from; to = fold.to; failed = false }
-resumed fold broken = record { run = fold.run; gain = fold.gain; from = fold.from; to = fold.to; failed = true }
+resumed fold (at run) = record { run = run; gain = fold.gain; ends = fold.ends; failed = false }
+resumed fold broken = record { run = fold.run; gain = fold.gain; ends = fold.ends; failed = true }
 
 -- before input 1 there is no running result
 unfoldable pub begun : Operand → Fold
-begun input = record { run = zero; gain = input.gain; from = input.from; to = input.to; failed = true }
+begun input = record { run = zero; gain = input.gain; ends = input.ends; failed = true }
 
 -- the same running result, before the next input
 unfoldable pub toward : Fold → Operand → Fold
-toward fold next = record { run = fold.run; gain = next.gain; from = next.from; to = next.to; failed = fold.failed }
+toward fold next = record { run = fold.run; gain = next.gain; ends = next.ends; failed = fold.failed }

@@ -55,7 +55,7 @@ operated_on operator x (at run) =
 -- "Inputs join left to right, operator k before input k+1. Any input error: error. An unavailable input is skipped with its operator."
 -- As REAL32 no signal is a whole number any more.
 unfoldable pub joins : ℕ → Operand → Running → Signal → Running
-joins operator input run (Real v) = operated_on operator (scaled v input.from input.to input.gain) run
+joins operator input run (Real v) = operated_on operator (scaled v input.ends.from input.ends.to input.gain) run
 joins operator input run Error = broken
 joins operator input run Absent = run
 joins operator input run (Whole n) = run
@@ -65,7 +65,7 @@ joined operator input run = joins operator input run (as_real input.signal)
 
 -- input 1 starts the run; that it is there is asked before
 unfoldable pub starts : Operand → Signal → Running
-starts input (Real v) = at (scaled v input.from input.to input.gain)
+starts input (Real v) = at (scaled v input.ends.from input.ends.to input.gain)
 starts input Error = broken
 starts input Absent = broken
 starts input (Whole n) = broken

@@ -20,8 +20,7 @@ unfoldable pub operand : List ℕ → ℕ → ℕ → Operand
 operand unit n i =
     record {
       signal = as_real (sourced unit (byte unit (of_math 0x4000 n) i) (byte unit (of_math 0x4001 n) i));
-      from = whole unit (of_math 0x4020 n) i;
-      to = whole unit (of_math 0x4022 n) i;
+      ends = record { from = whole unit (of_math 0x4020 n) i; to = whole unit (of_math 0x4022 n) i };
       gain = whole unit (of_math 0x4040 n) i;
     }
 

@@ -13,10 +13,11 @@ use signals::signal::Signal;
 
 // A value of the input whose gain and scaling ends the fold holds.
 fn scale(v: f32, fold: Fold) -> f32
-    ensures { result ≡ scaled v fold.from fold.to fold.gain }
+    ensures { result ≡ scaled v fold.ends.from fold.ends.to fold.gain }
 {
-    let from = fold.from as f32;
-    let span = fold.to as f32 - from;
+    let ends = fold.ends;
+    let from = ends.from as f32;
+    let span = ends.to as f32 - from;
     let part = limit((v - from) / span, 0.0, 1.0);
     part * (fold.gain as f32 / 100.0)
 }
@@ -28,8 +29,7 @@ pub fn start(input: Operand) -> Fold
     let mut fold = Fold {
         run: 0.0,
         gain: input.gain,
-        from: input.from,
-        to: input.to,
+        ends: input.ends,
         failed: true,
     };
     let signal = input.signal;
@@ -60,8 +60,7 @@ pub fn join(fold: Fold, operator: u8, input: Operand) -> Fold
     let next = Fold {
         run: fold.run,
         gain: input.gain,
-        from: input.from,
-        to: input.to,
+        ends: input.ends,
         failed: fold.failed,
     };
     let signal = input.signal;

@@ -13,30 +13,28 @@ ghost use Rattle.math.specs.Fold as spec;
 use numbers::limits::limit;
 use signals::signal::Signal;
 
-// An input: its signal, scaling 1 and 2, and its gain in per cent.
-#[derive(Clone, Copy)]
-pub struct Operand {
-    pub signal: Signal,
-    pub from: i16,
-    pub to: i16,
-    pub gain: i16,
-}
-
-// 4521h and 4523h.
+// Scaling 1 and 2, of an input or of the block's result.
 #[derive(Clone, Copy)]
 pub struct Ends {
     pub from: i16,
     pub to: i16,
 }
 
-// The running result, and the gain and the scaling ends of the input that joins it. An input in error or a division by zero leaves
+// An input: its signal, its scaling, and its gain in per cent.
+#[derive(Clone, Copy)]
+pub struct Operand {
+    pub signal: Signal,
+    pub ends: Ends,
+    pub gain: i16,
+}
+
+// The running result, and the gain and the scaling of the input that joins it. An input in error or a division by zero leaves
 // `failed` set.
 #[derive(Clone, Copy)]
 pub struct Fold {
     pub run: f32,
     pub gain: i16,
-    pub from: i16,
-    pub to: i16,
+    pub ends: Ends,
     pub failed: bool,
 }
 

@@ -31,8 +31,10 @@ fn operand(math: Row<'_, 4>, i: usize) -> Operand
             math.unit,
             pair_at(math.unit, OPERAND_SOURCE + at, OPERAND_NUMBER + at),
         )),
-        from: whole_at(math.unit, OPERAND_FROM + at),
-        to: whole_at(math.unit, OPERAND_TO + at),
+        ends: Ends {
+            from: whole_at(math.unit, OPERAND_FROM + at),
+            to: whole_at(math.unit, OPERAND_TO + at),
+        },
         gain: whole_at(math.unit, OPERAND_GAIN + at),
     }
 }

@@ -25,7 +25,8 @@ use Rattle.controller.proofs.Recalled.{is_ticked}
 use Rattle.controller.proofs.TickLaws.{length_kept}
 use Rattle.controller.specs.Commands.{rule_for}
 use Rattle.why.specs.Answer.{no_output, no_tick, answered, number, explained}
-use Rattle.why.specs.declared.types.Why.TheVariants.{NoOutput, NoTick, Told}
+use Rattle.std.specs.Prelude.{Ok, Err}
+use Rattle.why.specs.declared.types.Untold.TheVariants.{NoOutput, NoTick}
 use Rattle.why.proofs.Explaining.{explains}
 use Rattle.firmware.proofs.Once.{why_once}
 use Rattle.promises.specs.Asking.{ToldAsItWas, since_answer, since_load, ticks_since, RefusedExactly, OneAnswerWhy}
@@ -88,13 +89,13 @@ at_first = refl
 
 -- ---- what C is told
 
-refuses : (unit : List ℕ) (n : ℕ) (trail : List ℕ) (a b : Bool) → (a || b) ≡ true → sets trail 0 (explained unit n (first a NoOutput (first b NoTick (Told (rule_for unit n))))) ≡ trail
+refuses : (unit : List ℕ) (n : ℕ) (trail : List ℕ) (a b : Bool) → (a || b) ≡ true → sets trail 0 (explained unit n (first a (Err NoOutput) (first b (Err NoTick) (Ok (rule_for unit n))))) ≡ trail
 unfolding explained first
 refuses unit n trail true b e = refl
 refuses unit n trail false true e = refl
 refuses unit n trail false false e = let z : ◌≡◌ {A = ℕ} 0 1 = cc in absurd (omega arith)
 
-told : (unit : List ℕ) (n : ℕ) (a b : Bool) → number (first a NoOutput (first b NoTick (Told (rule_for unit n)))) ≡ first a (negsuc 0) (first b (negsuc 1) (pos (rule_for unit n)))
+told : (unit : List ℕ) (n : ℕ) (a b : Bool) → number (first a (Err NoOutput) (first b (Err NoTick) (Ok (rule_for unit n)))) ≡ first a (negsuc 0) (first b (negsuc 1) (pos (rule_for unit n)))
 unfolding number first
 told unit n true b = refl
 told unit n false true = refl

@@ -5,6 +5,7 @@ ghost use Rattle.signals.specs.Words.{kind_of, number_of_signal, real_of, of_wor
 use crate::signal::Signal;
 use numbers::signed::{pattern, signed};
 
+#[tactic(auto, unfolding(crate::specs::Words::kind_of))]
 pub fn kind_of(s: Signal) -> u32
     ensures { result ≡ kind_of s }
 {
@@ -16,24 +17,21 @@ pub fn kind_of(s: Signal) -> u32
     }
 }
 
-// What is no number is not equal to itself.
+// What is no number has none.
 fn bits(x: f32) -> u32
     ensures { result ≡ number_of_signal (Signal.Real x) }
 {
-    if x == x {
-        return f32::to_bits(x);
-    }
-    0
+    if x.is_nan() { 0 } else { x.to_bits() }
 }
 
+#[tactic(auto, unfolding(crate::specs::Words::number_of_signal))]
 pub fn number_of(s: Signal) -> u32
     ensures { result ≡ number_of_signal s }
 {
     match s {
         Signal::Whole(v) => pattern(v),
         Signal::Real(x) => bits(x),
-        Signal::Error => 0,
-        Signal::Absent => 0,
+        Signal::Error | Signal::Absent => 0,
     }
 }
 
@@ -47,17 +45,14 @@ pub fn real_of(word: u32) -> f32
     f32::from_bits(word)
 }
 
+#[tactic(auto, unfolding(crate::specs::Words::of_words, numbers::specs::Choice::first))]
 pub fn of_words(kind: u32, number: u32) -> Signal
     ensures { result ≡ of_words kind number }
 {
-    if kind == 1 {
-        return Signal::Whole(signed(number));
+    match kind {
+        1 => Signal::Whole(signed(number)),
+        2 => Signal::Real(real_of(number)),
+        3 => Signal::Error,
+        _ => Signal::Absent,
     }
-    if kind == 2 {
-        return Signal::Real(real_of(number));
-    }
-    if kind == 3 {
-        return Signal::Error;
-    }
-    Signal::Absent
 }

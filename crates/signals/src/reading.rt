@@ -6,26 +6,25 @@ use crate::signal::Signal;
 use numbers::rounding::nearest;
 
 // A whole number as its REAL32; all else as it is.
+#[tactic(auto, unfolding(crate::specs::Signal::as_real))]
 pub fn as_real(s: Signal) -> Signal
     ensures { result ≡ as_real s }
 {
     match s {
-        Signal::Whole(n) => Signal::Real(n as f32),
-        Signal::Real(x) => Signal::Real(x),
-        Signal::Error => Signal::Error,
-        Signal::Absent => Signal::Absent,
+        Signal::Whole(n) => Signal::Real(f32::from(n)),
+        Signal::Real(_) | Signal::Error | Signal::Absent => s,
     }
 }
 
 // The whole number that a signal comes to: 0 where it has none.
+#[tactic(auto, unfolding(crate::specs::Signal::whole))]
 pub fn as_whole(s: Signal) -> i16
     ensures { result ≡ whole s }
 {
     match s {
         Signal::Whole(v) => v,
         Signal::Real(x) => nearest(x),
-        Signal::Error => 0,
-        Signal::Absent => 0,
+        Signal::Error | Signal::Absent => 0,
     }
 }
 
@@ -33,10 +32,8 @@ pub fn absent(s: Signal) -> bool
     ensures { result ≡ is_absent s }
 {
     match s {
-        Signal::Whole(_) => false,
-        Signal::Real(_) => false,
-        Signal::Error => false,
         Signal::Absent => true,
+        Signal::Whole(_) | Signal::Real(_) | Signal::Error => false,
     }
 }
 
@@ -44,9 +41,7 @@ pub fn failed(s: Signal) -> bool
     ensures { result ≡ is_error s }
 {
     match s {
-        Signal::Whole(_) => false,
-        Signal::Real(_) => false,
         Signal::Error => true,
-        Signal::Absent => false,
+        Signal::Whole(_) | Signal::Real(_) | Signal::Absent => false,
     }
 }

@@ -15,6 +15,7 @@ use signals::signal::Signal;
 
 // What a kind of block has, as one number that is looked up once: where its signals begin in the row of blocks, times 16, and how many it
 // has. Received values and constants are no blocks.
+#[tactic(auto, unfolding(crate::specs::Extent::extent, numbers::specs::Choice::first))]
 fn extent(source: u8) -> usize
     requires { (source ≡ 1 → ⊥) × (source ≡ 6 → ⊥) }
     ensures { result ≡ extent source }

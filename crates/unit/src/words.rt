@@ -9,10 +9,7 @@ use numbers::signed::signed;
 pub fn word_at(unit: &[u32], slot: usize) -> u32
     ensures { result ≡ get_or unit.now slot 0 }
 {
-    if slot < unit.len() {
-        return unit[slot];
-    }
-    0
+    unit.get(slot).copied().unwrap_or(0)
 }
 
 pub fn whole_at(unit: &Unit, slot: usize) -> i16

@@ -2,11 +2,13 @@
 -- Assumes nothing.
 use mathlib.Core.Path.{◌≡◌, refl, sym, ap, ◌∙◌}
 use mathlib.Core.List.{List, [], ◌∷◌, ◌++◌}
-use Prim.Native.Nat.{ℕ, zero, suc, ◌+◌, ◌*◌, ◌<◌, ◌≤◌}
+use Prim.Native.Nat.{ℕ, zero, suc, ◌+◌, ◌<◌, ◌≤◌}
 use native.Mathlib.Nat.{add-zero}
 use native.Mathlib.Omega.{arith}
 use lib.ListN.{length, get_or, set, take, drop, drop_of_length-le}
-use lib.Seq.{sets, drop-cons, drop-drop}
+use lib.Seq.{sets, drop-cons}
+use Rattle.std.specs.List.{slice_range}
+use Rattle.std.proofs.lemmas.Slice.{between_to_end}
 use Rattle.octets.specs.Little.{little}
 
 -- the bytes from a place on, so many, each by its place
@@ -28,43 +30,40 @@ sets_append (x ∷ a) b l i =
 
 -- ---- the number that bytes at a place hold
 
-module _ (l : List ℕ) (at : ℕ) where
-  pub two_past : length l ≤ at → 0 ≡ little (take 2 (drop at l))
-  unfolding little
-  two_past h = rw (drop_of_length-le l h)
+-- past the end there is none
+pub none_past : (l : List ℕ) (at n : ℕ) → length l ≤ at → 0 ≡ little (take n (drop at l))
+unfolding little
+none_past l at zero h = refl
+none_past l at (suc n) h = rw (drop_of_length-le l h)
 
-  pub two_last : at + 1 ≡ length l → little (get_or l at 0 ∷ 0 ∷ []) ≡ little (take 2 (drop at l))
-  unfolding little
-  two_last h =
-      let none : drop (suc at) l ≡ [] = drop_of_length-le l {i = suc at} (omega arith) in
-      rw (drop-cons l at 0 (omega arith), none)
+-- read off the rest of the bytes
+pub from_rest : (l : List ℕ) (at n : ℕ) {rest : List ℕ} {v : ℕ} → rest ≡ slice_range l at (length l) → v ≡ little (take n rest) → v ≡ little (take n (drop at l))
+from_rest l at n e told = told ∙ ap (λ (m : List ℕ). little (take n m)) (e ∙ between_to_end l at (length l) (omega arith))
 
-  pub two_there : at < length l → (at + 1 ≡ length l → ⊥) → little (get_or l at 0 ∷ get_or l (at + 1) 0 ∷ []) ≡ little (take 2 (drop at l))
-  unfolding placed
-  two_there h n =
-      let next : at + 1 ≡ suc at = omega arith in
-      rw (part l 2 at (omega arith), next)
+-- fewer bytes than are asked for: those that are missing count as 0
+pub one_of_two : (m : List ℕ) → 1 ≤ length m → length m < 2 → little (get_or m 0 0 ∷ 0 ∷ []) ≡ little (take 2 m)
+unfolding little
+one_of_two [] h k = omega arith
+one_of_two (a ∷ []) h k = refl
+one_of_two (a ∷ b ∷ m) h k = omega arith
 
-  pub four_past : length l ≤ at → 0 ≡ little (take 4 (drop at l))
-  unfolding little
-  four_past h = rw (drop_of_length-le l h)
+pub one_of_four : (m : List ℕ) → 1 ≤ length m → length m < 2 → little (get_or m 0 0 ∷ 0 ∷ 0 ∷ 0 ∷ []) ≡ little (take 4 m)
+unfolding little
+one_of_four [] h k = omega arith
+one_of_four (a ∷ []) h k = refl
+one_of_four (a ∷ b ∷ m) h k = omega arith
 
-  pub four_there : at + 4 ≤ length l → little (get_or l at 0 ∷ get_or l (at + 1) 0 ∷ get_or l (at + 2) 0 ∷ get_or l (at + 3) 0 ∷ []) ≡ little (take 4 (drop at l))
-  unfolding placed
-  four_there h =
-      let one : at + 1 ≡ suc at = omega arith in
-      let two : at + 2 ≡ suc (suc at) = omega arith in
-      let three : at + 3 ≡ suc (suc (suc at)) = omega arith in
-      rw (part l 4 at h, one, two, three)
+pub two_of_four : (m : List ℕ) → 2 ≤ length m → length m < 3 → little (get_or m 0 0 ∷ get_or m 1 0 ∷ 0 ∷ 0 ∷ []) ≡ little (take 4 m)
+unfolding little
+two_of_four [] h k = omega arith
+two_of_four (a ∷ []) h k = omega arith
+two_of_four (a ∷ b ∷ []) h k = refl
+two_of_four (a ∷ b ∷ c ∷ m) h k = omega arith
 
-  pub two_and_two : {low high : ℕ} → low ≡ little (take 2 (drop at l)) → high ≡ little (take 2 (drop (at + 2) l))
-      → low + 0x10000 * high ≡ little (take 4 (drop at l))
-  unfolding little
-  two_and_two e f = rw (e, f, sym (drop-drop 2 at l)) (halves (drop at l))
-    where
-      halves : (m : List ℕ) → little (take 2 m) + 0x10000 * little (take 2 (drop 2 m)) ≡ little (take 4 m)
-      halves [] = refl
-      halves (a ∷ []) = omega arith
-      halves (a ∷ b ∷ []) = omega arith
-      halves (a ∷ b ∷ c ∷ []) = omega arith
-      halves (a ∷ b ∷ c ∷ d ∷ m) = omega arith
+pub three_of_four : (m : List ℕ) → 3 ≤ length m → length m < 4 → little (get_or m 0 0 ∷ get_or m 1 0 ∷ get_or m 2 0 ∷ 0 ∷ []) ≡ little (take 4 m)
+unfolding little
+three_of_four [] h k = omega arith
+three_of_four (a ∷ []) h k = omega arith
+three_of_four (a ∷ b ∷ []) h k = omega arith
+three_of_four (a ∷ b ∷ c ∷ []) h k = refl
+three_of_four (a ∷ b ∷ c ∷ d ∷ m) h k = omega arith

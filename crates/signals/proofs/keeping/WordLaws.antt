@@ -37,7 +37,14 @@ pattern_read (negsuc n) f =
     let m : 0x10000 - (0xFFFF - n) ≡ suc n = omega arith in
     rw (e, le-ltb (0xFFFF - n) 0x8000 (omega arith), m)
 
-itself : (x : Float) → is_nan x ≡ false → eq x x ≡ true
+-- only what is no number is not equal to itself
+pub not_itself : (x : Float) → is_nan x ≡ true → eq x x ≡ false
+unfolding is_nan eq
+not_itself nan e = refl
+not_itself (inf s) e = absurd (let z : ◌≡◌ {A = ℕ} 0 1 = cc in omega arith)
+not_itself (fin s m k) e = absurd (let z : ◌≡◌ {A = ℕ} 0 1 = cc in omega arith)
+
+pub itself : (x : Float) → is_nan x ≡ false → eq x x ≡ true
 unfolding is_nan eq
 itself nan e = absurd (let z : ◌≡◌ {A = ℕ} 0 1 = cc in omega arith)
 itself (inf true) e = refl

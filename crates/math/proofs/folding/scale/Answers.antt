@@ -12,7 +12,7 @@ pub returns : goal.returns
 unfolding scaled
 returns c =
     let fold = c.args.fold in
-    let from : to_z w16 (of_z w16 fold.from) ≡ fold.from = search rules in
-    let to : to_z w16 (of_z w16 fold.to) ≡ fold.to = search rules in
+    let from : to_z w16 (of_z w16 fold.ends.from) ≡ fold.ends.from = search rules in
+    let to : to_z w16 (of_z w16 fold.ends.to) ≡ fold.ends.to = search rules in
     let gain : to_z w16 (of_z w16 fold.gain) ≡ fold.gain = search rules in
     simp (c.limit-part.ensures, of_real, from, to, gain)
