@@ -12,7 +12,7 @@ fn size(y: f32) -> u32
     requires { T (positive y) × (num y ≤ 32768 * den y) }
     ensures { result ≡ nearest_size (num y) (den y) }
 {
-    let bits = f32::to_bits(y);
+    let bits = y.to_bits();
     if bits < 0x3F00_0000 {
         return 0;
     }

@@ -3,6 +3,7 @@ ghost use Rattle.std.specs.Prelude.{◌≡◌, ◌<◌, ◌≤◌, ◌+◌, ◌-
 ghost use Rattle.numbers.specs.Limit.{limit_whole};
 ghost use Rattle.numbers.specs.Line.{nearest, line_at};
 
+use crate::limits::limit;
 use crate::signed::signed;
 
 #[derive(Clone, Copy)]
@@ -52,12 +53,9 @@ pub fn line(a: Point, b: Point, x: i16) -> i16
     signed(weighed(t, d, raise(a.y), raise(b.y)) + 0x8000)
 }
 
-// The line at x limited to the points: it is limited of itself, but for ends in the wrong order.
+// The line at x limited to the points.
 pub fn limited(a: Point, b: Point, x: i16) -> i16
     ensures { result ≡ line_at a.x a.y b.x b.y (limit_whole x a.x b.x) }
 {
-    if b.x <= a.x {
-        return a.y;
-    }
-    line(a, b, x)
+    line(a, b, limit(x, a.x, b.x))
 }

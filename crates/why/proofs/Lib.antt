@@ -5,6 +5,7 @@ pub mod Explaining
 pub mod Fits
 pub mod Leads
 pub mod Nexts
+pub mod Places
 pub mod Rules
 pub mod Sights
 pub mod Views

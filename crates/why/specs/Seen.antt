@@ -1,7 +1,7 @@
 -- What a block saw of a pair (source, number) in a tick, told by the unit after it alone.
 -- "A block that reads a later block, or itself, sees the last tick's signal".
 -- Assumes nothing.
-use Rattle.std.specs.Prelude.{ℕ, ◌+◌, ◌-◌, ◌*◌, Bool, not, ◌&&◌, List, eqb, ltb, get_or}
+use Rattle.std.specs.Prelude.{ℕ, ◌+◌, ◌-◌, ◌*◌, Bool, not, ◌&&◌, List, eqb, ltb, get_or, Option, Some, None}
 use Rattle.numbers.specs.Choice.{first}
 use Rattle.dictionary.specs.Unit.{before_at}
 use Rattle.signals.specs.Words.{of_words}
@@ -22,6 +22,10 @@ block_of p =
     (first (eqb p.source 4) (among logics 2 p.number)
     (first (eqb p.source 5) (among maths 4 p.number)
     blocks)))
+
+-- what the code calls it: a row, or none
+unfoldable pub placed : ℕ → Option ℕ
+placed row = first (ltb row blocks) (Some row) None
 
 -- the signal at a row as the tick found it
 unfoldable pub before_row : List ℕ → ℕ → Signal

@@ -141,11 +141,11 @@ fn head(pair: Pair, kind: u32, value: u32) -> [u8; 7]
 }
 
 // The count is known last and stands first.
-fn put_trail(unit: &Unit, pair: Pair, trail: &mut [u8])
-    requires { block_of pair < 16 }
+fn put_trail(unit: &Unit, pair: Pair, block: usize, trail: &mut [u8])
+    requires { (block ≡ block_of pair) × (block < 16) }
     ensures { trail.new ≡ sets trail.old 7 (spec.trail_bytes (steps.trail unit.now pair)) }
 {
-    let walked = follow(unit, pair, trail);
+    let walked = follow(unit, pair, block, trail);
     let count = [walked.count];
     put(trail, 7, &count);
     let end = [number_of(walked.end)];
@@ -158,8 +158,12 @@ fn explain(unit: &Unit, pair: Pair, trail: &mut [u8])
     let signal = signal_of(unit, pair);
     let head = head(pair, kind_of(signal), value(signal));
     put(trail, 0, &head);
+    // only a block is ever in error
+    let Some(block) = block_of(pair) else {
+        return;
+    };
     if failed(signal) {
-        put_trail(unit, pair, trail);
+        put_trail(unit, pair, block, trail);
     }
 }
 

@@ -84,13 +84,13 @@ fn next(unit: &Unit, row: usize) -> Next
 
 // The deciding pair and the steps behind it, each a source and a number, from place 8 of the trail on. Rows fall, so there are no more
 // steps than blocks.
-pub fn follow(unit: &Unit, first: Pair, trail: &mut [u8]) -> Walked
-    requires { block_of first < 16 }
+pub fn follow(unit: &Unit, first: Pair, block: usize, trail: &mut [u8]) -> Walked
+    requires { (block ≡ block_of first) × (block < 16) }
     ensures { Followed unit.now first trail.old trail.new result }
 {
     let front = [first.source, first.number];
     put(trail, 8, &front);
-    let mut row = block_of(first);
+    let mut row = block;
     for i in 0..16 {
         let next = next(unit, row);
         match next {
@@ -103,7 +103,12 @@ pub fn follow(unit: &Unit, first: Pair, trail: &mut [u8]) -> Walked
             Next::Reads(pair) => {
                 let step = [pair.source, pair.number];
                 put(trail, 10 + 2 * i, &step);
-                let block = block_of(pair);
+                let Some(block) = block_of(pair) else {
+                    return Walked {
+                        count: i as u8 + 2,
+                        end: End::Earlier,
+                    };
+                };
                 if row <= block {
                     return Walked {
                         count: i as u8 + 2,
