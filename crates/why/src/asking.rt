@@ -129,15 +129,8 @@ fn head(pair: Pair, kind: u32, value: u32) -> [u8; 7]
     requires { kind < 256 }
     ensures { result ≡ pair.source ∷ pair.number ∷ kind ∷ bytes 4 value }
 {
-    [
-        pair.source,
-        pair.number,
-        kind as u8,
-        (value % 256) as u8,
-        (value / 256 % 256) as u8,
-        (value / 256 / 256 % 256) as u8,
-        (value / 256 / 256 / 256 % 256) as u8,
-    ]
+    let [a, b, c, d] = value.to_le_bytes();
+    [pair.source, pair.number, kind as u8, a, b, c, d]
 }
 
 // The count is known last and stands first.

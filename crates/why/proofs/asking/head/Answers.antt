@@ -1,9 +1,9 @@
 -- Byte by byte.
 -- Assumes nothing.
-use mathlib.Core.Path.{refl}
 use Rattle.octets.specs.Little.{bytes}
+use Rattle.octets.proofs.little.ByteLaws.{le_bytes_four}
 use Rattle.why.proofs.asking.head.Goals as goal
 
 pub returns : goal.returns
 unfolding bytes
-returns c = refl
+returns c = rw (c.to_le_bytes.ensures, le_bytes_four c.args.value)
