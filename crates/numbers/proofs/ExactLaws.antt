@@ -2,12 +2,11 @@
 -- Assumes nothing.
 use Prim.Native.Nat.{ℕ, zero, suc, ◌+◌, ◌-◌, ◌<◌, ◌≤◌, ◌^◌}
 use mathlib.Core.Bool.{Bool, true, false, cond}
-use mathlib.Core.Path.{◌≡◌, refl, subst, sym, ap, ◌∙◌}
+use mathlib.Core.Path.{◌≡◌, subst, sym, ap, ◌∙◌}
 use native.Mathlib.Omega.{arith}
-use borrow.Author.Tests.{le-ltb}
-use lib.Dec.{ltb, leb→le}
+use lib.Dec.{ltb}
 use lib.IntN.{ℤ, pos, negsuc, neg_ℤ, sub_ℕ, ◌+ℤ◌, ◌-ℤ◌}
-use lib.Signed.{mag, ◌≤ℤ◌}
+use lib.Signed.{mag}
 use mir.Syntax.{Width, w16, w32}
 use mir.Val.{to_z, of_z, SFits}
 use mir.Facts.{to_z-of_z, sfits_widen}
@@ -93,23 +92,3 @@ answer f fits e g = e ∙ sym g ∙ ap f (to_z-of_z fits)
 -- an INTEGER16 that a call gave, as it is handed on
 pub back : {x a : ℤ} → mag x < 2 ^ 15 → x ≡ a → to_z w16 (of_z w16 x) ≡ a
 back {x} h e = to_z-of_z {w = w16} {z = x} (record { sfits = h }) ∙ e
-
--- ---- a number less one that is not above it is a natural number below 65536
-pub record Gap (z : ℤ) : Type 0 where
-  pub size : ℕ
-  pub is : z ≡ pos size
-  pub low : size < 65536
-
-sub_le : (a b : ℕ) → b ≤ a → sub_ℕ a b ≡ pos (a - b)
-sub_le a b h = rw (le-ltb a b h)
-
-pub gap : (a b : ℤ) → SFits w16 a → SFits w16 b → a ≤ℤ b → Gap (b -ℤ a)
-gap (pos zero) (pos b) f g h = record { size = b + 0; is = refl; low = omega (arith, g.sfits) }
-gap (pos (suc a)) (pos b) f g h =
-    let k : suc a ≤ b = leb→le (suc a) b h.le in
-    record { size = b - suc a; is = sub_le b (suc a) k; low = omega (arith, g.sfits) }
-gap (pos a) (negsuc b) f g h = absurd h.le
-gap (negsuc a) (pos b) f g h = record { size = b + suc a; is = refl; low = omega (arith, f.sfits, g.sfits) }
-gap (negsuc a) (negsuc b) f g h =
-    let k : b ≤ a = leb→le b a h.le in
-    record { size = suc a - suc b; is = sub_le (suc a) (suc b) (omega arith); low = omega (arith, f.sfits) }

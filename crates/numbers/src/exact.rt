@@ -1,12 +1,6 @@
 // Sums and differences of INTEGER16 that cannot wrap, since they are made at 32 bits.
 ghost use Rattle.std.specs.Prelude.{◌≡◌, ◌+ℤ◌, ◌-ℤ◌};
 
-pub fn wide(v: i16) -> i32
-    ensures { result ≡ v }
-{
-    i32::from(v)
-}
-
 pub fn sum(a: i16, b: i16) -> i32
     ensures { result ≡ a +ℤ b }
 {

@@ -20,7 +20,8 @@ fn size(y: f32) -> u32
     ((digits >> (149 - bits / 0x80_0000)) + 1) / 2
 }
 
-// Zero of either sign and what is no number pass every test.
+// Zero of either sign and what is no number pass every test. The library's cast to i16 goes by way of REAL64, whose operations no chip's
+// library may call for.
 pub fn nearest(v: f32) -> i16
     ensures { result ≡ nearest16 v }
 {

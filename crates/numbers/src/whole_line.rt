@@ -3,7 +3,6 @@ ghost use Rattle.std.specs.Prelude.{◌≡◌, ◌<◌, ◌≤◌, ◌+◌, ◌-
 ghost use Rattle.numbers.specs.Limit.{limit_whole};
 ghost use Rattle.numbers.specs.Line.{nearest, line_at};
 
-use crate::limits::limit;
 use crate::signed::signed;
 
 #[derive(Clone, Copy)]
@@ -53,9 +52,12 @@ pub fn line(a: Point, b: Point, x: i16) -> i16
     signed(weighed(t, d, raise(a.y), raise(b.y)) + 0x8000)
 }
 
-// The line at x limited to the points.
+// The line at x limited to the points: it is limited of itself, so only ends in the wrong order are told apart (LineLaws.limited_kept).
 pub fn limited(a: Point, b: Point, x: i16) -> i16
     ensures { result ≡ line_at a.x a.y b.x b.y (limit_whole x a.x b.x) }
 {
-    line(a, b, limit(x, a.x, b.x))
+    if b.x <= a.x {
+        return a.y;
+    }
+    line(a, b, x)
 }

@@ -35,7 +35,7 @@ pub fn number_of(s: Signal) -> u32
     }
 }
 
-// A pattern that is no number is told by its exponent and fraction.
+// A pattern that is no number is told by its exponent and fraction: from_bits takes none.
 pub fn real_of(word: u32) -> f32
     ensures { result ≡ real_of word }
 {

@@ -12,7 +12,9 @@ pub fn as_real(s: Signal) -> Signal
 {
     match s {
         Signal::Whole(n) => Signal::Real(f32::from(n)),
-        Signal::Real(_) | Signal::Error | Signal::Absent => s,
+        Signal::Real(x) => Signal::Real(x),
+        Signal::Error => Signal::Error,
+        Signal::Absent => Signal::Absent,
     }
 }
 

@@ -1,20 +1,19 @@
--- The line at the limited x.
+-- The line at a limited x: for points in order the line itself, else the first y (`LineLaws`).
 -- Assumes nothing.
-use mathlib.Core.Path.{◌∙◌, ap}
+use mathlib.Core.Path.{◌∙◌, sym}
 use borrow.Author.Rules.{rules}
 use mir.Facts.{to_z-of_z}
 use mir.Syntax.{w16}
 use mir.Val.{SFits}
-use Rattle.numbers.specs.Line.{line_at}
-use Rattle.numbers.proofs.ExactLaws.{back}
-use Rattle.numbers.proofs.limits.LimitLaws.{of_whole}
+use Rattle.numbers.proofs.whole_line.LineLaws.{limited_kept, limited_crossed}
+use Rattle.numbers.proofs.Tests.{tests}
 use Rattle.numbers.proofs.whole_line.limited.Goals as goal
+
+pub returns-then-b-a : goal.returns-then-b-a
+returns-then-b-a c = to_z-of_z {w = w16} (search rules) ∙ sym (limited_crossed _ _ _ _ (search tests) _)
 
 pub returns : goal.returns
 returns c =
-    let p = c.args in
-    let start_fits : SFits w16 p.a.x = search rules in
-    let end_fits : SFits w16 p.b.x = search rules in
-    back c.line.type_inv
-    (c.line.ensures
-    ∙ ap (line_at p.a.x p.a.y p.b.x p.b.y) (back c.limit.type_inv (c.limit.ensures ∙ of_whole _ _ _ ∙ rw (to_z-of_z c.ranges.x, to_z-of_z start_fits, to_z-of_z end_fits))))
+    let x = c.args.x in
+    let fits : SFits w16 x = search rules in
+    to_z-of_z {w = w16} (search rules) ∙ (rw (to_z-of_z fits) at c.line.ensures) ∙ sym (limited_kept _ _ _ _ (search tests) x)
