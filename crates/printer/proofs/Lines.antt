@@ -5,7 +5,7 @@ use mathlib.Core.Bool.{Bool, true, false}
 use mathlib.Core.List.{List, [], ◌∷◌}
 use mathlib.Core.Path.{◌≡◌, refl, ap, ◌∙◌}
 use native.Mathlib.Omega.{arith}
-use borrow.Author.Tests.{ne_eqb}
+use borrow.Author.Tests.{ne_eqb, eqb-true, eqb-false}
 use lib.Dec.{eqb}
 use lib.ListN.{length, take, drop, get_or}
 use lib.Seq.{drop-cons}
@@ -62,14 +62,17 @@ module _ (l : List ℕ) (h : 2 ≤ length l) where
   split : l ≡ get_or l 0 0 ∷ get_or l 1 0 ∷ drop 2 l
   split = drop-cons l 0 0 (omega arith) ∙ ap (λ (r : List ℕ). get_or l 0 0 ∷ r) (drop-cons l 1 0 (omega arith))
 
-  pub line_joined : (get_or l 1 0 ≡ 0x20 → ⊥) → asked l ≡ unknown
-  line_joined e = ap asked split ∙ joined (get_or l 0 0) (get_or l 1 0) (drop 2 l) e
-
   pub line_frame : get_or l 1 0 ≡ 0x20 → get_or l 0 0 ≡ 0x53 → asked l ≡ asked_frame (fields (drop 2 l))
   line_frame e s = ap asked split ∙ by_frame (get_or l 0 0) (get_or l 1 0) (drop 2 l) e s
 
   pub line_tick : get_or l 1 0 ≡ 0x20 → get_or l 0 0 ≡ 0x54 → asked l ≡ asked_tick (fields (drop 2 l))
   line_tick e s = ap asked split ∙ by_tick (get_or l 0 0) (get_or l 1 0) (drop 2 l) e s
 
-  pub line_other : get_or l 1 0 ≡ 0x20 → (get_or l 0 0 ≡ 0x53 → ⊥) → (get_or l 0 0 ≡ 0x54 → ⊥) → asked l ≡ unknown
-  line_other e s t = ap asked split ∙ by_none (get_or l 0 0) (get_or l 1 0) (drop 2 l) e s t
+-- a line that begins neither with S nor with T and a space
+pub line_none : (l : List ℕ) → (get_or l 1 0 ≡ 0x20 → get_or l 0 0 ≡ 0x53 → ⊥) → (get_or l 1 0 ≡ 0x20 → get_or l 0 0 ≡ 0x54 → ⊥) → asked l ≡ unknown
+line_none [] s t = line_short [] (omega arith)
+line_none (b ∷ []) s t = line_short (b ∷ []) (omega arith)
+line_none (b ∷ d ∷ rest) s t = go (eqb d 0x20) refl where
+  go : (u : Bool) → eqb d 0x20 ≡ u → asked (b ∷ d ∷ rest) ≡ unknown
+  go true p = let e = eqb-true d 0x20 p in by_none b d rest e (s e) (t e)
+  go false p = joined b d rest (eqb-false d 0x20 p)

@@ -1,15 +1,16 @@
 // The answers of one character, into a lent buffer that has room for every answer.
-ghost use Rattle.std.specs.Prelude.{◌≡◌, ◌≤◌, length};
+ghost use Rattle.std.specs.Prelude.{◌≤◌, length};
 ghost use Rattle.printer.specs.Printing.{Printed, silent_line, unknown_line};
 
+use octets::putting::put;
+
 // The character and the line end.
-fn show_text(text: &[u8], out: &mut [u8]) -> usize
-    requires { (length text.now ≡ 2) × (2 ≤ length out.old) }
+fn show_text(text: &[u8], out: &mut [u8; 64]) -> usize
+    requires { length text.now ≤ 64 }
     ensures { Printed text.now out.old out.new result }
 {
-    out[0] = text[0];
-    out[1] = text[1];
-    2
+    put(out, 0, text);
+    text.len()
 }
 
 pub fn show_silent(out: &mut [u8; 64]) -> usize

@@ -52,20 +52,13 @@ fn tick(rest: &[u8]) -> Option<Request>
     Some(Request::Tick(samples))
 }
 
+// By the leading letter and the space after it.
 pub fn read(line: &[u8]) -> Option<Request>
     ensures { result ≡ asked line.now }
 {
-    if line.len() < 2 {
-        return None;
+    match line {
+        [b'S', b' ', digits @ ..] => frame(digits),
+        [b'T', b' ', rest @ ..] => tick(rest),
+        _ => None,
     }
-    if line[1] != b' ' {
-        return None;
-    }
-    if line[0] == b'S' {
-        return frame(&line[2..]);
-    }
-    if line[0] == b'T' {
-        return tick(&line[2..]);
-    }
-    None
 }

@@ -20,23 +20,18 @@ pub fn put_hex(b: u8, at: usize, out: &mut [u8]) -> usize
 }
 
 // How many digits a number needs.
+#[tactic(auto, using(numbers::proofs::Tests::tests), unfolding(crate::specs::Printing::width, numbers::specs::Choice::first))]
 fn width_of(n: u32) -> usize
     requires { n < 100000 }
     ensures { result ≡ width n }
 {
-    if n < 10 {
-        return 1;
+    match n {
+        0..=9 => 1,
+        10..=99 => 2,
+        100..=999 => 3,
+        1000..=9999 => 4,
+        _ => 5,
     }
-    if n < 100 {
-        return 2;
-    }
-    if n < 1000 {
-        return 3;
-    }
-    if n < 10000 {
-        return 4;
-    }
-    5
 }
 
 // The last digit goes to the last place first.

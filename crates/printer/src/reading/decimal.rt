@@ -31,17 +31,19 @@ pub fn read_size(digits: &[u8], limit: u32) -> Option<u32>
 pub fn read_number(text: &[u8]) -> Option<i16>
     ensures { result ≡ number_read text.now }
 {
-    if text.is_empty() {
-        return None;
+    match text {
+        [] => None,
+        [b'-', digits @ ..] => {
+            let Some(n) = read_size(digits, 32768) else {
+                return None;
+            };
+            Some(signed(65536 - n))
+        }
+        _ => {
+            let Some(n) = read_size(text, 32767) else {
+                return None;
+            };
+            Some(n as i16)
+        }
     }
-    if text[0] == b'-' {
-        let Some(n) = read_size(&text[1..], 32768) else {
-            return None;
-        };
-        return Some(signed(65536 - n));
-    }
-    let Some(n) = read_size(text, 32767) else {
-        return None;
-    };
-    Some(n as i16)
 }
