@@ -5,12 +5,8 @@ use Rattle.octets.specs.Little.{little}
 use Rattle.numbers.specs.Choice.{first}
 use Rattle.numbers.specs.Order.{below}
 use Rattle.numbers.specs.Signed.{signed16}
+use Rattle.image.specs.declared.reading.order.Pair.{Pair}
 use Rattle.image.specs.declared.reading.order.Run.{Run}
-
-pub record Pair : Type 0 where
-  pub lower : ℕ
-  pub upper : ℕ
-  pub strict : Bool
 
 -- the INTEGER16 at a place; past the end it is 0
 unfoldable pub number_at : List ℕ → ℕ → ℤ

@@ -6,7 +6,7 @@ pub mod types;
 ghost use Rattle.lists.specs.Changes.{Finding};
 
 use crate::changes::noting::note_all;
-use crate::changes::types::{NOTES, Noted};
+use crate::changes::types::{Images, NOTES, Noted};
 use crate::types::Unmade;
 use image::reading::check;
 
@@ -20,5 +20,5 @@ pub fn find_changes(
 {
     check(current).map_err(Unmade::Current)?;
     check(wanted).map_err(Unmade::Wanted)?;
-    Ok(note_all(current, wanted, notes))
+    Ok(note_all(Images { current, wanted }, notes))
 }

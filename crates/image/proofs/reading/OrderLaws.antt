@@ -5,10 +5,11 @@ use mathlib.Core.Bool.{Bool, true, false, not, ◌&&◌}
 use mathlib.Core.List.{List, [], ◌∷◌, ◌++◌, flat_map}
 use Prim.Native.Nat.{ℕ, suc, ◌+◌, ◌<◌, ◌≤◌}
 use native.Mathlib.Omega.{arith}
-use lib.IntN.{ℤ, pos}
+use lib.IntN.{ℤ, pos, negsuc}
 use lib.ListN.{length, get_or, drop, drop_of_length-le}
 use lib.Seq.{drop-cons}
-use lib.Signed.{lt_z}
+use lib.Signed.{lt_z, le_z}
+use Rattle.std.proofs.lemmas.Bool.Decides.{nat_tests}
 use mir.Syntax.{w16}
 use mir.Val.{SFits, to_z, of_z}
 use mir.Facts.{to_z-of_z}
@@ -36,15 +37,21 @@ module _ (image : List ℕ) (at : ℕ) where
 
 -- ---- one pair
 
+not_above : (a b : ℤ) → le_z a b ≡ not (lt_z b a)
+not_above (pos a) (pos b) = grind (arith, nat_tests)
+not_above (pos a) (negsuc b) = refl
+not_above (negsuc a) (pos b) = refl
+not_above (negsuc a) (negsuc b) = grind (arith, nat_tests)
+
 module _ (image : List ℕ) (lower upper : ℕ) {strict : Bool} {low high : ℤ}
     (l : low ≡ number_at image lower) (fl : SFits w16 low) (h : high ≡ number_at image upper) (fh : SFits w16 high) where
   pub strictly : strict ≡ true → lt_z (to_z w16 (of_z w16 low)) (to_z w16 (of_z w16 high)) ≡ rising image lower upper strict
   unfolding rising first below
   strictly s = rw (s, to_z-of_z fl, to_z-of_z fh, l, h)
 
-  pub loosely : strict ≡ false → not (lt_z (to_z w16 (of_z w16 high)) (to_z w16 (of_z w16 low))) ≡ rising image lower upper strict
+  pub loosely : strict ≡ false → le_z (to_z w16 (of_z w16 low)) (to_z w16 (of_z w16 high)) ≡ rising image lower upper strict
   unfolding rising first below
-  loosely s = rw (s, to_z-of_z fl, to_z-of_z fh, l, h)
+  loosely s = rw (s, to_z-of_z fl, to_z-of_z fh, l, h) (not_above (number_at image lower) (number_at image upper))
 
 -- ---- every one of a list, one after the other
 

@@ -22,7 +22,8 @@ use Rattle.records.proofs.SizeLaws.{listed_extent}
 use Rattle.records.proofs.WalkLaws.{image_taken}
 use Rattle.records.specs.declared.types.Refusal.TheVariants.{OutOfOrder, LeftOver}
 use Rattle.records.specs.declared.types.Refusal.{Refusal}
-use Rattle.image.specs.Places.{Pair, number_at, rising, rises}
+use Rattle.image.specs.declared.reading.order.Pair.{Pair}
+use Rattle.image.specs.Places.{number_at, rising, rises}
 use Rattle.image.specs.Reading.{in_place, in_order, configuration_in, finished, reading}
 use Rattle.std.specs.Prelude.{Result, Ok, Err}
 

@@ -2,11 +2,19 @@
 // are of nine bytes, and a chain is a few runs of pairs at fixed places.
 ghost use Rattle.std.specs.Prelude.{◌≡◌, length};
 ghost use Rattle.numbers.specs.Choice.{every};
-ghost use Rattle.image.specs.Places.{number_at, rises, rising, run_of};
+ghost use Rattle.image.specs.Places.{number_at, rises, run_of};
 ghost use Rattle.image.specs.Reading.{in_order, configuration_in};
 
 use numbers::signed::signed;
 use octets::little::two;
+
+// Where the data of a lower entry and of an upper one stand, and whether the upper one must be greater.
+#[derive(Clone, Copy)]
+pub struct Pair {
+    pub lower: u32,
+    pub upper: u32,
+    pub strict: bool,
+}
 
 // Where the data of the first lower entry stands, where that of the first upper one, how many pairs, each nine bytes behind the
 // one before, and whether the upper one must be greater.
@@ -55,28 +63,33 @@ fn number_at(image: &[u8], at: u32) -> i16
     0
 }
 
-fn pair_rises(image: &[u8], lower: u32, upper: u32, strict: bool) -> bool
-    ensures { result ≡ rising image.now lower upper strict }
-{
-    let low = number_at(image, lower);
-    let high = number_at(image, upper);
-    if strict {
-        return low < high;
+impl Pair {
+    fn rises(self, image: &[u8]) -> bool
+        ensures { result ≡ rises image.now self }
+    {
+        let low = number_at(image, self.lower);
+        let high = number_at(image, self.upper);
+        if self.strict {
+            return low < high;
+        }
+        low <= high
     }
-    !(high < low)
 }
 
 fn run_rises(image: &[u8], run: Run) -> bool
     ensures { result ≡ every (rises image.now) (run_of run) }
 {
-    let mut lower = run.lower as u32;
-    let mut upper = run.upper as u32;
+    let mut pair = Pair {
+        lower: u32::from(run.lower),
+        upper: u32::from(run.upper),
+        strict: run.strict,
+    };
     for _ in 0..run.pairs {
-        if !pair_rises(image, lower, upper, run.strict) {
+        if !pair.rises(image) {
             return false;
         }
-        lower += 9;
-        upper += 9;
+        pair.lower += 9;
+        pair.upper += 9;
     }
     true
 }

@@ -6,6 +6,7 @@ ghost use Rattle.numbers.specs.Signed.{signed16};
 ghost use Rattle.records.specs.Walk.{size_in};
 ghost use Rattle.lists.specs.Noting.{Stands, Both, word_from};
 
+use super::types::Images;
 use numbers::signed::signed;
 use octets::little::{four, two};
 
@@ -41,11 +42,11 @@ fn number_at(image: &[u8], place: usize, size: usize) -> i16
     signed(two(image[place + 7], image[place + 8]) as u32)
 }
 
-pub fn rises_at(current: &[u8], wanted: &[u8], place: usize, size: usize) -> bool
-    requires { Both current.now wanted.now place size }
-    ensures { result ≡ below (signed16 (word_from current.now place)) (signed16 (word_from wanted.now place)) }
+pub fn rises_at(images: Images, place: usize, size: usize) -> bool
+    requires { Both images.current.now images.wanted.now place size }
+    ensures { result ≡ below (signed16 (word_from images.entry.current.now place)) (signed16 (word_from images.entry.wanted.now place)) }
 {
-    let first = number_at(current, place, size);
-    let second = number_at(wanted, place, size);
+    let first = number_at(images.current, place, size);
+    let second = number_at(images.wanted, place, size);
     first < second
 }

@@ -8,4 +8,4 @@ use Rattle.image.proofs.reading.order.run_rises.Given as goal
 
 abbrev pub invariant-loop : goal.invariant-loop
 invariant-loop l =
-    (l.lower + 9 * (l.run.pairs - l.counter) < 2 ^ 20) × ((l.upper + 9 * (l.run.pairs - l.counter) < 2 ^ 20) × (every (rises l.image) (run_of l.run) ≡ every (rises l.image) (run_from l.lower l.upper l.run.strict (l.run.pairs - l.counter))))
+    (l.pair.lower + 9 * (l.fn.run.pairs - l.counter) < 2 ^ 20) × ((l.pair.upper + 9 * (l.fn.run.pairs - l.counter) < 2 ^ 20) × (every (rises l.image) (run_of l.fn.run) ≡ every (rises l.image) (run_from l.pair.lower l.pair.upper l.pair.strict (l.fn.run.pairs - l.counter))))
