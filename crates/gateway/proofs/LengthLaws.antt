@@ -14,12 +14,12 @@ use Rattle.numbers.specs.Choice.{every}
 use Rattle.dictionary.specs.Names.{configured}
 use Rattle.dictionary.specs.Rows.{width}
 use Rattle.records.specs.Layout.{listed, size, entry, record_in}
-use Rattle.records.specs.declared.types.Outcome.TheVariants.{Good}
 use Rattle.image.specs.Reading.{reading, configuration_in}
 use Rattle.sending.specs.Sending.{slots_from, stretch, total}
 use Rattle.sending.proofs.Counting.{all_inside, total_within}
 use Rattle.lists.specs.Changes.{changes, list_of}
 use Rattle.lists.proofs.changes.StandingLaws.{record_length}
+use Rattle.std.specs.Prelude.{Ok}
 
 -- the bytes of a slot's record
 unfoldable pub record_size : ℕ → ℕ
@@ -29,7 +29,7 @@ all_sizes : total record_size (stretch 0 configured) ≡ 5203
 unfolding total record_size stretch slots_from configured entry listed size width
 all_sizes = refl
 
-records_long : (image : List ℕ) → reading image ≡ Good → (ss : List ℕ) → every (λ s. ltb s configured) ss ≡ true → length (flat_map (record_in image) ss) ≡ total record_size ss
+records_long : (image : List ℕ) → reading image ≡ Ok tt → (ss : List ℕ) → every (λ s. ltb s configured) ss ≡ true → length (flat_map (record_in image) ss) ≡ total record_size ss
 unfolding every flat_map total record_size configured
 records_long image g [] e = refl
 records_long image g (s ∷ ss) e =
@@ -38,7 +38,7 @@ records_long image g (s ∷ ss) e =
     let one = record_length image g s (ltb-true s 611 both.0) in
     omega (arith, length-append (record_in image s) (flat_map (record_in image) ss))
 
-pub list_short : (current wanted : List ℕ) → reading wanted ≡ Good → length (list_of current wanted) ≤ 5207
+pub list_short : (current wanted : List ℕ) → reading wanted ≡ Ok tt → length (list_of current wanted) ≤ 5207
 unfolding list_of changes
 list_short current wanted g =
     let count = bytes_length 4 (length (changes current wanted)) in

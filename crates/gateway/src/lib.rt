@@ -1,28 +1,21 @@
 // The list maker for a gateway written in C; restore_list.h tells a C programmer all of it, and `gateway_c` is what C links.
 #![tactic(auto)]
 
-ghost use Rattle.std.specs.Prelude.{◌≡◌};
+ghost use Rattle.std.specs.Prelude.{◌≡◌, Err};
 ghost use Rattle.gateway.specs.Restored.{told, Restored};
-ghost use Rattle.lists.specs.declared.types.Made.TheVariants.{Wanted};
 
-use image::refusals::number_of;
 use lists::make_list;
-use lists::types::Made;
-use records::types::{Outcome, Refusal};
+use lists::types::Unmade;
+use records::types::Refusal;
 
-// "-(10+n) for the wanted"
-fn wanted_refused(why: Refusal) -> i32
-    ensures { result ≡ told (Wanted why) }
+// "-n for the current image, -(10+n) for the wanted, then -8 for room"
+fn number_of(unmade: Unmade) -> i32
+    ensures { result ≡ told (Err unmade) }
 {
-    match why {
-        Refusal::EndedEarly => -11,
-        Refusal::WrongCount => -12,
-        Refusal::NotNext => -13,
-        Refusal::WrongSize => -14,
-        Refusal::OutOfRange => -15,
-        Refusal::OutOfOrder => -16,
-        Refusal::LeftOver => -17,
-        Refusal::NoRoom => -18,
+    match unmade {
+        Unmade::Current(why) => -i32::from(why.number()),
+        Unmade::Wanted(why) => -(10 + i32::from(why.number())),
+        Unmade::NoRoom => -i32::from(Refusal::NoRoom.number()),
     }
 }
 
@@ -31,9 +24,7 @@ pub fn restore_list(current: &[u8], wanted: &[u8], list: &mut [u8]) -> i32
     ensures { Restored current.now wanted.now list.old list.new result }
 {
     match make_list(current, wanted, list) {
-        Made::Done(n) => n as i32,
-        Made::Current(why) => number_of(Outcome::Refused(why)),
-        Made::Wanted(why) => wanted_refused(why),
-        Made::NoRoom => -8,
+        Ok(n) => n as i32,
+        Err(unmade) => number_of(unmade),
     }
 }

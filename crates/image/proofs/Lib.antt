@@ -1,3 +1,4 @@
+pub mod BelowZero
 pub mod ChainTrips
 pub mod ImageTrips
 pub mod LoadLaws

@@ -1,6 +1,6 @@
 -- "Readings refuse, records in order": what reading an image finds.
 -- Assumes nothing.
-use Rattle.std.specs.Prelude.{ℕ, Bool, not, List, ltb, length, drop}
+use Rattle.std.specs.Prelude.{ℕ, Bool, not, List, ltb, length, drop, Result, Ok, Err, ⊤}
 use Rattle.numbers.specs.Choice.{first, every}
 use Rattle.numbers.specs.Order.{below}
 use Rattle.roles.specs.Chains.{Neighbours, chains}
@@ -8,10 +8,7 @@ use Rattle.entries.specs.Judge.{held}
 use Rattle.records.specs.Layout.{listed}
 use Rattle.records.specs.Walk.{taken_in, values}
 use Rattle.records.specs.declared.types.Refusal.TheVariants.{OutOfOrder, LeftOver}
-use Rattle.records.specs.declared.types.Walked.{Walked}
-use Rattle.records.specs.declared.types.Walked.TheVariants.{Taken, Refused}
-use Rattle.records.specs.declared.types.Outcome.{Outcome}
-use Rattle.records.specs.declared.types.Outcome.TheVariants as outcome
+use Rattle.records.specs.declared.types.Refusal.{Refusal}
 
 -- two neighbours in order: the upper one greater, or at least not smaller
 unfoldable pub in_place : List ℕ → Neighbours → Bool
@@ -26,11 +23,11 @@ unfoldable pub configuration_in : List ℕ → List ℕ
 configuration_in image = values listed (drop 4 image)
 
 -- "then 7 bytes left over; then 6 chain"
-unfoldable pub finished : List ℕ → Walked → Outcome
-finished image (Taken n) =
-    first (ltb n (length image)) (outcome.Refused LeftOver)
-    (first (not (in_order (configuration_in image))) (outcome.Refused OutOfOrder) outcome.Good)
-finished image (Refused why) = outcome.Refused why
+unfoldable pub finished : List ℕ → Result ℕ Refusal → Result ⊤ Refusal
+finished image (Ok n) =
+    first (ltb n (length image)) (Err LeftOver)
+    (first (not (in_order (configuration_in image))) (Err OutOfOrder) (Ok tt))
+finished image (Err why) = Err why
 
-unfoldable pub reading : List ℕ → Outcome
+unfoldable pub reading : List ℕ → Result ⊤ Refusal
 reading image = finished image (taken_in image)

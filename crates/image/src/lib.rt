@@ -5,7 +5,7 @@ pub mod reading;
 pub mod refusals;
 pub mod writing;
 
-ghost use Rattle.std.specs.Prelude.{◌≡◌, ◌++◌, ◌≤◌, length, drop};
+ghost use Rattle.std.specs.Prelude.{◌≡◌, ◌++◌, ◌≤◌, length, drop, Ok};
 ghost use Rattle.dictionary.specs.Names.{configured};
 ghost use Rattle.image.specs.Reading.{reading, configuration_in};
 ghost use Rattle.image.specs.Loaded.{Loaded};
@@ -13,11 +13,11 @@ ghost use Rattle.image.specs.Loaded.{Loaded};
 use crate::reading::check;
 use dictionary::slots::{EC_VALUE, TICKED, Unit};
 use records::data::data_in;
-use records::types::Outcome;
+use records::types::Refusal;
 
 // The records of an image that was checked go by their own sizes, of which the first byte tells all.
 fn load(image: &[u8], unit: &mut [u32])
-    requires { (reading image.now ≡ Outcome.Good) × (configured ≤ length unit.old) }
+    requires { (reading image.now ≡ Ok tt) × (configured ≤ length unit.old) }
     ensures { unit.new ≡ configuration_in image.now ++ drop configured unit.old }
 {
     let mut rest = &image[4..];
@@ -31,16 +31,11 @@ fn load(image: &[u8], unit: &mut [u32])
 }
 
 // Any bytes; the unit's configuration is the image's only where the whole image is good.
-pub fn read(image: &[u8], unit: &mut Unit) -> Outcome
+pub fn read(image: &[u8], unit: &mut Unit) -> Result<(), Refusal>
     ensures { Loaded image.now unit.old unit.new result }
 {
-    let outcome = check(image);
-    match outcome {
-        Outcome::Good => {
-            unit[TICKED] = 0;
-            load(image, unit);
-        }
-        Outcome::Refused(_) => {}
-    }
-    outcome
+    check(image)?;
+    unit[TICKED] = 0;
+    load(image, unit);
+    Ok(())
 }

@@ -3,25 +3,21 @@ ghost use Rattle.std.specs.Prelude.{◌≡◌};
 ghost use Rattle.image.specs.Reading.{reading};
 
 use order::in_order;
-use records::types::{Outcome, Refusal, Walked};
+use records::types::Refusal;
 use records::walking::walk;
 
 mod order;
 
 // Any bytes of any length.
-pub fn check(image: &[u8]) -> Outcome
+pub fn check(image: &[u8]) -> Result<(), Refusal>
     ensures { result ≡ reading image.now }
 {
-    match walk(image) {
-        Walked::Refused(why) => Outcome::Refused(why),
-        Walked::Taken(n) => {
-            if n < image.len() {
-                return Outcome::Refused(Refusal::LeftOver);
-            }
-            if in_order(image) {
-                return Outcome::Good;
-            }
-            Outcome::Refused(Refusal::OutOfOrder)
-        }
+    let n = walk(image)?;
+    if n < image.len() {
+        return Err(Refusal::LeftOver);
     }
+    if !in_order(image) {
+        return Err(Refusal::OutOfOrder);
+    }
+    Ok(())
 }

@@ -10,7 +10,7 @@ ghost use Rattle.image.specs.Written.{Written};
 use crate::writing::placing::{put_number, write_row};
 use crate::writing::types::Front;
 use dictionary::slots::EC_VALUE;
-use records::types::{Outcome, Refusal};
+use records::types::Refusal;
 use records::walking::rows::ROWS;
 
 // An entry of the configuration has a record; the slots behind them begin with the EC values.
@@ -34,14 +34,14 @@ fn write_rows(words: &[u32], image: &mut [u8], rows: &[u32], from: Front) -> Fro
 }
 
 // Any words, any buffer: the image of the configuration at the front of the buffer, or nothing where it does not fit.
-pub fn write(words: &[u32], image: &mut [u8]) -> Outcome
+pub fn write(words: &[u32], image: &mut [u8]) -> Result<(), Refusal>
     ensures { Written words.now image.old image.new result }
 {
     if image.len() < IMAGE_SIZE {
-        return Outcome::Refused(Refusal::NoRoom);
+        return Err(Refusal::NoRoom);
     }
     put_number(image, 0, 4, RECORDS);
     let rows = ROWS;
     write_rows(words, image, &rows, Front { slot: 0, place: 4 });
-    Outcome::Good
+    Ok(())
 }

@@ -11,72 +11,49 @@ use borrow.Author.Tests.{lt-ltb, le-ltb}
 use Rattle.octets.specs.Little.{bytes}
 use Rattle.octets.proofs.little.ByteLaws.{bytes_length}
 use Rattle.numbers.specs.Choice.{first}
-use Rattle.records.specs.declared.types.Outcome.{Outcome}
-use Rattle.records.specs.declared.types.Outcome.TheVariants.{Good, Refused}
 use Rattle.records.specs.declared.types.Refusal.{Refusal}
 use Rattle.image.specs.Reading.{reading}
 use Rattle.lists.specs.Changes.{list_of, places, noted, found, noting, Finding}
 use Rattle.lists.specs.Noting.{record_from}
 use Rattle.lists.specs.declared.changes.types.Noted.{Noted}
-use Rattle.lists.specs.declared.changes.types.Found.{Found}
-use Rattle.lists.specs.declared.changes.types.Found.TheVariants as found
 use Rattle.lists.proofs.changes.OrderLaws.{in_notes, list_by_places, each_stands}
 use Rattle.lists.specs.Copying.{Standing}
 use Rattle.lists.specs.Listing.{made, left_by, Listing}
-use Rattle.lists.specs.declared.types.Made.TheVariants.{Done, Current, Wanted, NoRoom}
+use Rattle.std.specs.Prelude.{Result, Ok, Err, ⊤}
+use Rattle.lists.specs.declared.types.Unmade.{Unmade}
+use Rattle.lists.specs.declared.types.Unmade.TheVariants.{Current, Wanted, NoRoom}
 
 -- ---- what was found tells what reading found
 
-apart : ◌≡◌ {A = ℕ} 0 1 → ⊥
-apart z = omega arith
-
-module _ {current wanted notes notes' : List ℕ} {r : Found} (f : Finding current wanted notes notes' r) where
-  pub is_current : {why : Refusal} → r ≡ found.Current why → reading current ≡ Refused why
-  unfolding found
-  is_current {why} e = go (reading current) (reading wanted) refl (sym f.answered ∙ e)
+module _ {current wanted notes notes' : List ℕ} {r : Result Noted Unmade} (f : Finding current wanted notes notes' r) where
+  pub refused : {why : Unmade} (buffer : List ℕ) → r ≡ Err why → Listing current wanted buffer buffer (Err why)
+  unfolding found made left_by
+  refused {why} buffer e = go (reading current) (reading wanted) refl refl (sym f.answered ∙ e)
     where
-      go : (a b : Outcome) → reading current ≡ a → found a b (noted current wanted) ≡ found.Current why → reading current ≡ Refused why
-      go (Refused x) b p q = p ∙ ap Refused cc
-      go Good (Refused x) p q = absurd (apart cc)
-      go Good Good p q = absurd (apart cc)
+      go : (a b : Result ⊤ Refusal) → reading current ≡ a → reading wanted ≡ b → found a b (noted current wanted) ≡ Err why → Listing current wanted buffer buffer (Err why)
+      go (Err x) b p w q = let same : why ≡ Current x = cc in record { answered = rw p (ap Err same); bytes = refl }
+      go (Ok _) (Err x) p w q = let same : why ≡ Wanted x = cc in record { answered = rw (p, w) (ap Err same); bytes = refl }
+      go (Ok _) (Ok _) p w q = absurd cc
 
-  pub is_wanted : {why : Refusal} → r ≡ found.Wanted why → (reading current ≡ Good) × (reading wanted ≡ Refused why)
-  unfolding found
-  is_wanted {why} e = go (reading current) (reading wanted) refl refl (sym f.answered ∙ e)
-    where
-      go : (a b : Outcome) → reading current ≡ a → reading wanted ≡ b → found a b (noted current wanted) ≡ found.Wanted why → (reading current ≡ Good) × (reading wanted ≡ Refused why)
-      go (Refused x) b p w q = absurd (apart cc)
-      go Good (Refused x) p w q = (p, w ∙ ap Refused cc)
-      go Good Good p w q = absurd (apart cc)
-
-  pub is_places : {n : Noted} → r ≡ found.Places n
-      → (reading current ≡ Good) × (reading wanted ≡ Good) × (n ≡ noted current wanted) × (notes' ≡ sets notes n.low (places current wanted))
+  pub is_places : {n : Noted} → r ≡ Ok n
+      → (reading current ≡ Ok tt) × (reading wanted ≡ Ok tt) × (n ≡ noted current wanted) × (notes' ≡ sets notes n.low (places current wanted))
   unfolding found noting
   is_places {n} e = go (reading current) (reading wanted) refl refl (sym f.answered ∙ e)
     where
-      go : (a b : Outcome) → reading current ≡ a → reading wanted ≡ b → found a b (noted current wanted) ≡ found.Places n
-          → (reading current ≡ Good) × (reading wanted ≡ Good) × (n ≡ noted current wanted) × (notes' ≡ sets notes n.low (places current wanted))
-      go (Refused x) b p w q = absurd (apart cc)
-      go Good (Refused x) p w q = absurd (apart cc)
-      go Good Good p w q = (p, w, cc, f.laid ∙ ap (λ (x : Found). noting x notes (places current wanted)) e)
+      go : (a b : Result ⊤ Refusal) → reading current ≡ a → reading wanted ≡ b → found a b (noted current wanted) ≡ Ok n
+          → (reading current ≡ Ok tt) × (reading wanted ≡ Ok tt) × (n ≡ noted current wanted) × (notes' ≡ sets notes n.low (places current wanted))
+      go (Err x) b p w q = absurd cc
+      go (Ok _) (Err x) p w q = absurd cc
+      go (Ok _) (Ok _) p w q = (p, w, cc, f.laid ∙ ap (λ (x : Result Noted Unmade). noting x notes (places current wanted)) e)
 
--- ---- refused, or without room
+-- ---- without room
 
-module _ {current wanted buffer : List ℕ} where
-  pub refused_current : {why : Refusal} → reading current ≡ Refused why → Listing current wanted buffer buffer (Current why)
-  unfolding made left_by
-  refused_current e = record { answered = rw e; bytes = refl }
-
-  pub refused_wanted : {why : Refusal} → (reading current ≡ Good) × (reading wanted ≡ Refused why) → Listing current wanted buffer buffer (Wanted why)
-  unfolding made left_by
-  refused_wanted e = record { answered = rw (e.0, e.1); bytes = refl }
-
-module _ (current wanted buffer : List ℕ) {n : Noted} (g : reading current ≡ Good) (h : reading wanted ≡ Good) (e : n ≡ noted current wanted) where
+module _ (current wanted buffer : List ℕ) {n : Noted} (g : reading current ≡ Ok tt) (h : reading wanted ≡ Ok tt) (e : n ≡ noted current wanted) where
   long_is : n.long ≡ length (list_of current wanted)
   unfolding noted
   long_is = ap (λ (m : Noted). m.long) e
 
-  pub no_room : length buffer < n.long → Listing current wanted buffer buffer NoRoom
+  pub no_room : length buffer < n.long → Listing current wanted buffer buffer (Err NoRoom)
   unfolding made left_by first
   no_room l = record { answered = rw (g, h, lt-ltb (length buffer) (length (list_of current wanted)) (omega (arith, long_is))); bytes = refl }
 
@@ -109,7 +86,7 @@ module _ (current wanted buffer : List ℕ) {n : Noted} (g : reading current ≡
     pub can_be_written : Standing wanted part × (4 + length (flat_map (record_from wanted) part) ≤ length buffer)
     can_be_written = rw p (record { each = each_stands current wanted h }, room_is r)
 
-    pub written : {buffer' : List ℕ} → buffer' ≡ sets buffer 0 (bytes 4 (length part) ++ flat_map (record_from wanted) part) → Listing current wanted buffer buffer' (Done n.long)
+    pub written : {buffer' : List ℕ} → buffer' ≡ sets buffer 0 (bytes 4 (length part) ++ flat_map (record_from wanted) part) → Listing current wanted buffer buffer' (Ok n.long)
     unfolding made left_by first
     written q =
         let long = long_is in

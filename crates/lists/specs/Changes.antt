@@ -1,18 +1,17 @@
 -- What a restore list from a current to a wanted image holds, and where its records begin in the wanted image.
 -- Assumes nothing.
-use Rattle.std.specs.Prelude.{ℕ, ◌+◌, ◌-◌, ◌≡◌, length}
+use Rattle.std.specs.Prelude.{ℕ, ◌+◌, ◌-◌, ◌≡◌, length, Result, Ok, Err, ⊤}
 use mathlib.Core.List.{List, ◌++◌, map, flat_map}
 use Rattle.std.proofs.lemmas.List.Edits.{sets}
 use Rattle.octets.specs.Little.{bytes}
 use Rattle.dictionary.specs.Names.{configured}
 use Rattle.records.specs.Layout.{listed, offset, record_in}
-use Rattle.records.specs.declared.types.Outcome.{Outcome}
-use Rattle.records.specs.declared.types.Outcome.TheVariants.{Good, Refused}
 use Rattle.image.specs.Reading.{reading, configuration_in}
 use Rattle.sending.specs.Sending.{order, picked, rises, falls, sends}
 use Rattle.lists.specs.declared.changes.types.Noted.{Noted}
-use Rattle.lists.specs.declared.changes.types.Found.{Found}
-use Rattle.lists.specs.declared.changes.types.Found.TheVariants.{Places, Current, Wanted}
+use Rattle.lists.specs.declared.types.Unmade.{Unmade}
+use Rattle.lists.specs.declared.types.Unmade.TheVariants.{Current, Wanted}
+use Rattle.records.specs.declared.types.Refusal.{Refusal}
 
 -- the slots of the entries to send, in their order
 unfoldable pub changes : List ℕ → List ℕ → List ℕ
@@ -39,17 +38,16 @@ noted current wanted =
     }
 
 -- "current read first"
-unfoldable pub found : Outcome → Outcome → Noted → Found
-found (Refused why) other n = Current why
-found Good (Refused why) n = Wanted why
-found Good Good n = Places n
+unfoldable pub found : Result ⊤ Refusal → Result ⊤ Refusal → Noted → Result Noted Unmade
+found (Err why) other n = Err (Current why)
+found (Ok _) (Err why) n = Err (Wanted why)
+found (Ok _) (Ok _) n = Ok n
 
 -- a refusal notes nothing
-unfoldable pub noting : Found → List ℕ → List ℕ → List ℕ
-noting (Places n) notes ps = sets notes n.low ps
-noting (Current why) notes ps = notes
-noting (Wanted why) notes ps = notes
+unfoldable pub noting : Result Noted Unmade → List ℕ → List ℕ → List ℕ
+noting (Ok n) notes ps = sets notes n.low ps
+noting (Err why) notes ps = notes
 
-pub record Finding (current wanted notes notes' : List ℕ) (r : Found) : Type 0 where
+pub record Finding (current wanted notes notes' : List ℕ) (r : Result Noted Unmade) : Type 0 where
   pub answered : r ≡ found (reading current) (reading wanted) (noted current wanted)
   pub laid : notes' ≡ noting r notes (places current wanted)

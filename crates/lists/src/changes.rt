@@ -6,19 +6,19 @@ pub mod types;
 ghost use Rattle.lists.specs.Changes.{Finding};
 
 use crate::changes::noting::note_all;
-use crate::changes::types::{Found, NOTES};
+use crate::changes::types::{NOTES, Noted};
+use crate::types::Unmade;
 use image::reading::check;
-use records::types::Outcome;
 
 // Any bytes; a refusal notes nothing.
-pub fn find_changes(current: &[u8], wanted: &[u8], notes: &mut [u16; NOTES]) -> Found
+pub fn find_changes(
+    current: &[u8],
+    wanted: &[u8],
+    notes: &mut [u16; NOTES],
+) -> Result<Noted, Unmade>
     ensures { Finding current.now wanted.now notes.old notes.new result }
 {
-    match check(current) {
-        Outcome::Refused(why) => Found::Current(why),
-        Outcome::Good => match check(wanted) {
-            Outcome::Refused(why) => Found::Wanted(why),
-            Outcome::Good => Found::Places(note_all(current, wanted, notes)),
-        },
-    }
+    check(current).map_err(Unmade::Current)?;
+    check(wanted).map_err(Unmade::Wanted)?;
+    Ok(note_all(current, wanted, notes))
 }

@@ -1,10 +1,9 @@
-// What becomes of a restore list.
+// Why no restore list is made.
 use records::types::Refusal;
 
-// So many bytes of list, or which image is refused and why, or no room for the list.
+// Which image is refused and why, or no room for the list.
 #[derive(Clone, Copy)]
-pub enum Made {
-    Done(usize),
+pub enum Unmade {
     Current(Refusal),
     Wanted(Refusal),
     NoRoom,

@@ -15,8 +15,6 @@ use Rattle.dictionary.specs.Unit.{signals_at, runs_at, flags_at, before_at, tick
 use Rattle.dictionary.proofs.naming.NameLaws as Names
 use Rattle.dictionary.proofs.Unticked.{signals_behind, signals_before, mark_behind, forgotten}
 use Rattle.roles.specs.Values.{starts, at_start}
-use Rattle.records.specs.declared.types.Outcome.{Outcome}
-use Rattle.records.specs.declared.types.Outcome.TheVariants.{Good, Refused}
 use Rattle.image.specs.Loaded.{loaded}
 use Rattle.image.specs.Reading.{reading, configuration_in}
 use Rattle.sdo.specs.Answers.{answer}
@@ -35,6 +33,8 @@ use Rattle.promises.specs.Running.{Event, frame, tick, load, happens, run}
 use Rattle.promises.proofs.Forgetting.{size_stored}
 use Rattle.promises.proofs.Running.{sizes, all_words, size_by_load, always_sound, size_at_start}
 use Rattle.promises.proofs.Ticking.{rising, limits_rise}
+use Rattle.std.specs.Prelude.{Result, Ok, Err, ⊤}
+use Rattle.records.specs.declared.types.Refusal.{Refusal}
 
 pub told_as_it_was : ToldAsItWas
 told_as_it_was events b samples k h =
@@ -57,9 +57,9 @@ by_answer unit since (Written slot word) t =
     record { long = size_stored unit slot word ∙ t.long; word = eq-eqb _ 0 (forgotten (set unit slot word) (length-set unit slot word ∙ t.long)) }
 
 -- the mark stands behind the configuration, where a load takes what is left of the unit
-by_load : (image unit : List ℕ) (since : Bool) (o : Outcome) → Tells unit since → Tells (loaded image unit o) (since_load o since)
+by_load : (image unit : List ℕ) (since : Bool) (o : Result ⊤ Refusal) → Tells unit since → Tells (loaded image unit o) (since_load o since)
 unfolding loaded since_load no_tick
-by_load image unit since Good t =
+by_load image unit since (Ok _) t =
     let front = configuration_in image in
     let rest = drop configured (unticked unit) in
     let n = ticked_at - configured in
@@ -71,8 +71,8 @@ by_load image unit since Good t =
     ∙ get_or-drop configured (unticked unit) n 0
     ∙ ap (λ (k : ℕ). get_or (unticked unit) k 0) back
     ∙ forgotten unit t.long in
-    record { long = size_by_load image unit (omega (arith, t.long, sizes)) Good ∙ t.long; word = eq-eqb _ 0 word }
-by_load image unit since (Refused why) t = t
+    record { long = size_by_load image unit (omega (arith, t.long, sizes)) (Ok tt) ∙ t.long; word = eq-eqb _ 0 word }
+by_load image unit since (Err why) t = t
 
 on : (events : List Event) (unit : List ℕ) (since : Bool) → Tells unit since → no_tick (run events unit) ≡ not (ticks_since events unit since)
 unfolding run ticks_since happens no_tick

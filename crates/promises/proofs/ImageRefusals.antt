@@ -15,12 +15,8 @@ use Rattle.numbers.proofs.Choices.{chosen}
 use Rattle.dictionary.proofs.naming.NameLaws.{counted}
 use Rattle.records.specs.Layout.{Listed, listed, size, extent}
 use Rattle.records.specs.Walk.{number, outcome_number, index_in, sub_in, size_in, data_in, fits, valued, sized, decoded, behind, and_then, walked, taken_in}
-use Rattle.records.specs.declared.types.Outcome.{Outcome}
-use Rattle.records.specs.declared.types.Outcome.TheVariants as outcome
 use Rattle.records.specs.declared.types.Refusal.{Refusal}
 use Rattle.records.specs.declared.types.Refusal.TheVariants.{EndedEarly, WrongCount, NotNext, WrongSize, OutOfRange, OutOfOrder, LeftOver, NoRoom}
-use Rattle.records.specs.declared.types.Walked.{Walked}
-use Rattle.records.specs.declared.types.Walked.TheVariants.{Taken, Refused}
 use Rattle.records.proofs.RightLaws.{all_right, all_taken}
 use Rattle.records.proofs.SizeLaws.{listed_extent}
 use Rattle.image.specs.Reading.{reading, finished, in_order, configuration_in}
@@ -28,18 +24,19 @@ use Rattle.image.specs.Told as image
 use Rattle.image.specs.Written.{image_size}
 use Rattle.lists.specs.Changes.{list_of}
 use Rattle.lists.specs.Listing.{made}
-use Rattle.lists.specs.declared.types.Made.TheVariants as made
 use Rattle.firmware.proofs.Once.{replied_once, saved_once, loaded_once}
 use Rattle.gateway.specs.Restored as restored
 use Rattle.promises.specs.FrameRefusals.{first_match}
 use Rattle.promises.specs.ImageRefusals.{record_rows, records_rows, image_rows, met, ImagesMeetTheirs, OneToSeven, ToldToC, SameForC, OneForC, Tells, NumberTellsWhich}
+use Rattle.std.specs.Prelude.{Result, Ok, Err, ⊤}
+use Rattle.lists.specs.declared.types.Unmade.TheVariants.{NoRoom}
 
 -- ---- the records of an image
 
 -- what a walk answers, by the paper's number, with what comes behind it
-said : Walked → ℕ → ℕ
-said (Taken n) next = next
-said (Refused why) next = number why
+said : Result ℕ Refusal → ℕ → ℕ
+said (Ok n) next = next
+said (Err why) next = number why
 
 -- a row is met in the records, or else behind them
 walk_rows : (es : List Listed) (rest : List ℕ) (more : List (Bool × ℕ)) → first_match (records_rows es rest ++ more) 0 ≡ said (walked es rest) (first_match more 0)
@@ -49,11 +46,11 @@ walk_rows (e ∷ es) rest more =
     go (ltb (length rest) 7) (eqb (index_in rest) e.index) (eqb (sub_in rest) e.sub) (eqb (size_in rest) (size e)) (ltb (length rest) (7 + size e))
     (fits e (data_in (size e) rest)) (walked es (drop (7 + size e) rest)) (walk_rows es (drop (7 + size e) rest) more)
   where
-    go : (short index sub sized cut fit : Bool) (w : Walked) → first_match (records_rows es (drop (7 + size e) rest) ++ more) 0 ≡ said w (first_match more 0)
+    go : (short index sub sized cut fit : Bool) (w : Result ℕ Refusal) → first_match (records_rows es (drop (7 + size e) rest) ++ more) 0 ≡ said w (first_match more 0)
         → first short 1 (first (not (index && sub)) 3 (first (not sized) 4 (first cut 1 (first (not fit) 5 (first_match (records_rows es (drop (7 + size e) rest) ++ more) 0)))))
         ≡ said
-        (and_then (first short (Refused EndedEarly) (first (not index) (Refused NotNext) (first (not sub) (Refused NotNext) (first (not sized) (Refused WrongSize)
-        (first cut (Refused EndedEarly) (first (not fit) (Refused OutOfRange) (Taken (7 + size e)))))))) w)
+        (and_then (first short (Err EndedEarly) (first (not index) (Err NotNext) (first (not sub) (Err NotNext) (first (not sized) (Err WrongSize)
+        (first cut (Err EndedEarly) (first (not fit) (Err OutOfRange) (Ok (7 + size e)))))))) w)
         (first_match more 0)
     go true index sub sized cut fit w h = refl
     go false false sub sized cut fit w h = refl
@@ -61,20 +58,20 @@ walk_rows (e ∷ es) rest more =
     go false true true false cut fit w h = refl
     go false true true true true fit w h = refl
     go false true true true false false w h = refl
-    go false true true true false true (Taken n) h = h
-    go false true true true false true (Refused why) h = h
+    go false true true true false true (Ok n) h = h
+    go false true true true false true (Err why) h = h
 
 -- ---- an image
 
 -- behind the records
-ends : (more ordered : Bool) → outcome_number (first more (outcome.Refused LeftOver) (first (not ordered) (outcome.Refused OutOfOrder) outcome.Good)) ≡ first more 7 (first (not ordered) 6 0)
+ends : (more ordered : Bool) → outcome_number (first more (Err LeftOver) (first (not ordered) (Err OutOfOrder) (Ok tt))) ≡ first more 7 (first (not ordered) 6 0)
 unfolding first outcome_number number
 ends true ordered = refl
 ends false true = refl
 ends false false = refl
 
 -- what is taken is all of the records
-all_of : (rest : List ℕ) {n : ℕ} → walked listed rest ≡ Taken n → 4 + n ≡ 5207
+all_of : (rest : List ℕ) {n : ℕ} → walked listed rest ≡ Ok n → 4 + n ≡ 5207
 all_of rest {n} t =
     let whole = all_taken listed rest (all_right listed rest t) in
     let same : n ≡ extent listed = cc in
@@ -86,13 +83,13 @@ images_meet_theirs bytes =
     rw counted.0
     (go (ltb (length bytes) 4) (eqb (little (take 4 bytes)) 611) (walked listed (drop 4 bytes)) refl (walk_rows listed (drop 4 bytes) _))
   where
-    go : (short count : Bool) (w : Walked) → walked listed (drop 4 bytes) ≡ w
+    go : (short count : Bool) (w : Result ℕ Refusal) → walked listed (drop 4 bytes) ≡ w
         → {met : ℕ} → met ≡ said w (first (ltb 5207 (length bytes)) 7 (first (not (in_order (configuration_in bytes))) 6 0))
-        → outcome_number (finished bytes (first short (Refused EndedEarly) (first (not count) (Refused WrongCount) (behind 4 w)))) ≡ first short 1 (first (not count) 2 met)
+        → outcome_number (finished bytes (first short (Err EndedEarly) (first (not count) (Err WrongCount) (behind 4 w)))) ≡ first short 1 (first (not count) 2 met)
     go true count w t e = refl
     go false false w t e = refl
-    go false true (Refused why) t e = sym e
-    go false true (Taken n) t e = rw (all_of (drop 4 bytes) t) (ends (ltb 5207 (length bytes)) (in_order (configuration_in bytes)) ∙ sym e)
+    go false true (Err why) t e = sym e
+    go false true (Ok n) t e = rw (all_of (drop 4 bytes) t) (ends (ltb 5207 (length bytes)) (in_order (configuration_in bytes)) ∙ sym e)
 
 -- ---- no row of an image has 8
 
@@ -128,7 +125,7 @@ told_to_C = (
     below_zero : {m n : ℕ} → m ≡ n → neg_ℤ (pos m) ≡ neg_ℤ (pos n)
     below_zero e = ap (λ (n : ℕ). neg_ℤ (pos n)) e
 
-    room : (short : Bool) → image.told (first short (outcome.Refused NoRoom) outcome.Good) ≡ neg_ℤ (pos (first short 8 0))
+    room : (short : Bool) → image.told (first short (Err NoRoom) (Ok tt)) ≡ neg_ℤ (pos (first short 8 0))
     room true = refl
     room false = refl
 
@@ -190,16 +187,16 @@ some NoRoom = omega arith
 
 module _ (current wanted list room : ℕ) {r : ℤ} (low-current : current ≤ 7) (low-wanted : wanted ≤ 7) where
   -- room for the list, or none
-  tells_size : current ≡ 0 → wanted ≡ 0 → (full : Bool) → ltb room list ≡ full → r ≡ restored.told (first full made.NoRoom (made.Done list)) → Tells current wanted list room r
+  tells_size : current ≡ 0 → wanted ≡ 0 → (full : Bool) → ltb room list ≡ full → r ≡ restored.told (first full (Err NoRoom) (Ok list)) → Tells current wanted list room r
   unfolding first restored.told
   tells_size c w true t e = let h = ltb-true room list t in omega (signs, below_in r 8 e)
   tells_size c w false t e = let h = ltb-false room list t in omega signs
 
-  tells : (x y : Outcome) → outcome_number x ≡ current → outcome_number y ≡ wanted → r ≡ restored.told (made x y list room) → Tells current wanted list room r
+  tells : (x y : Result ⊤ Refusal) → outcome_number x ≡ current → outcome_number y ≡ wanted → r ≡ restored.told (made x y list room) → Tells current wanted list room r
   unfolding made outcome_number restored.told
-  tells (outcome.Refused why) y c w e = let h = some why in omega signs
-  tells outcome.Good (outcome.Refused why) c w e = let h = some why in omega (signs, below_in r (10 + number why) e)
-  tells outcome.Good outcome.Good c w e = tells_size (sym c) (sym w) (ltb room list) refl e
+  tells (Err why) y c w e = let h = some why in omega signs
+  tells (Ok _) (Err why) c w e = let h = some why in omega (signs, below_in r (10 + number why) e)
+  tells (Ok _) (Ok _) c w e = tells_size (sym c) (sym w) (ltb room list) refl e
 
 pub number_tells_which : NumberTellsWhich
 unfolding restored.outcome

@@ -14,8 +14,6 @@ use Rattle.dictionary.specs.Unit.{unticked}
 use Rattle.dictionary.proofs.OneEach.{slots_apart}
 use Rattle.roles.specs.Values.{at_start}
 use Rattle.records.specs.Layout.{listed, entry, image_of}
-use Rattle.records.specs.declared.types.Outcome.{Outcome}
-use Rattle.records.specs.declared.types.Outcome.TheVariants.{Good, Refused}
 use Rattle.records.specs.declared.types.Refusal.{Refusal}
 use Rattle.records.specs.declared.types.Refusal.TheVariants.{NoRoom}
 use Rattle.records.specs.LookUp.{looked, look_up}
@@ -31,27 +29,28 @@ use Rattle.image.proofs.ImageTrips.{configuration_back, image_accepted, bytes_ag
 use Rattle.promises.specs.Running.{run}
 use Rattle.promises.specs.Images.{SavedReadsBack, SameBytesAgain, AcceptsExactly, OneConfigurationEach, RefusalsWriteNothing, OneOutcome, LookedUpAsItStands}
 use Rattle.promises.proofs.Running.{sizes, always_sound}
+use Rattle.std.specs.Prelude.{Result, Ok, Err, ⊤}
 
 -- ---- what a contract leaves
 
-module _ {words buffer buffer' : List ℕ} {w : Outcome} (s : Written words buffer buffer' w) where
-  roomy : w ≡ Good → ltb (length buffer) image_size ≡ false
+module _ {words buffer buffer' : List ℕ} {w : Result ⊤ Refusal} (s : Written words buffer buffer' w) where
+  roomy : w ≡ Ok tt → ltb (length buffer) image_size ≡ false
   unfolding first
   roomy g = go (ltb (length buffer) image_size) (sym s.answered ∙ g)
     where
-      go : (b : Bool) → first b (Refused NoRoom) Good ≡ Good → b ≡ false
+      go : (b : Bool) → first {A = Result ⊤ Refusal} b (Err NoRoom) (Ok tt) ≡ Ok tt → b ≡ false
       go true e = absurd (not_good e)
       go false e = refl
 
-  pub image_there : w ≡ Good → take image_size buffer' ≡ image_of words
+  pub image_there : w ≡ Ok tt → take image_size buffer' ≡ image_of words
   unfolding first image_size
   image_there g = rw (s.bytes, roomy g) (take_at (image_of words) (drop 5207 buffer) 5207 (image_length words))
 
-  nothing_there : (why : Refusal) → w ≡ Refused why → buffer' ≡ buffer
+  nothing_there : (why : Refusal) → w ≡ Err why → buffer' ≡ buffer
   unfolding first
   nothing_there why e = go (ltb (length buffer) image_size) (sym s.answered ∙ e) s.bytes
     where
-      go : (b : Bool) → first b (Refused NoRoom) Good ≡ Refused why → buffer' ≡ first b buffer (image_of words ++ drop image_size buffer) → buffer' ≡ buffer
+      go : (b : Bool) → first {A = Result ⊤ Refusal} b (Err NoRoom) (Ok tt) ≡ Err why → buffer' ≡ first b buffer (image_of words ++ drop image_size buffer) → buffer' ≡ buffer
       go true q h = h
       go false q h = absurd (not_good (sym q))
 
@@ -79,7 +78,7 @@ saved_reads_back events buffer buffer' other other' w r made s g l =
     let unit = run events at_start in
     let long : configured ≤ length unit = omega (arith, sound.size, sizes) in
     let image = image_there s g in
-    let good : reading (take image_size buffer') ≡ Good = ap reading image ∙ accepts (image_of unit) (image_accepted unit sound.valid long) in (
+    let good : reading (take image_size buffer') ≡ Ok tt = ap reading image ∙ accepts (image_of unit) (image_accepted unit sound.valid long) in (
       l.answered ∙ good,
       l.state ∙ ap (loaded (take image_size buffer') other) good
           ∙ ap (λ (c : List ℕ). c ++ drop configured (unticked other)) (ap configuration_in image ∙ configuration_back unit sound.valid long),

@@ -18,7 +18,6 @@ use Rattle.entries.specs.Judge.{judged}
 use Rattle.sdo.specs.Answers.{size_of, stored, answer}
 use Rattle.records.specs.Layout.{listed, size, entry, record_in}
 use Rattle.records.specs.Walk.{size_in, data_in}
-use Rattle.records.specs.declared.types.Outcome.TheVariants.{Good}
 use Rattle.records.proofs.RightLaws.{Right}
 use Rattle.image.specs.Reading.{reading, configuration_in}
 use Rattle.image.proofs.reading.PlaceLaws.{counted, value_at}
@@ -31,6 +30,7 @@ use Rattle.lists.proofs.changes.StandingLaws as Standing
 use Rattle.promises.specs.Delivery.{frame_of_record, frames_from, frames_in}
 use Rattle.promises.proofs.RecordFrames as Record
 use Rattle.promises.proofs.Slots.{named, own_size}
+use Rattle.std.specs.Prelude.{Ok}
 
 -- ---- only the record counts, not what is behind it
 
@@ -53,7 +53,7 @@ module _ (front rest : List ℕ) where
 unfoldable pub frame_at : List ℕ → ℕ → List ℕ
 frame_at image slot = frame_of_record (drop (place_of slot) image)
 
-module _ (image : List ℕ) (g : reading image ≡ Good) (slot : ℕ) (h : slot < configured) where
+module _ (image : List ℕ) (g : reading image ≡ Ok tt) (slot : ℕ) (h : slot < configured) where
   body : List ℕ
   body = drop (place_of slot) image
 
@@ -112,7 +112,7 @@ module _ (image : List ℕ) (g : reading image ≡ Good) (slot : ℕ) (h : slot 
 
 -- ---- record after record
 
-module _ (image : List ℕ) (g : reading image ≡ Good) where
+module _ (image : List ℕ) (g : reading image ≡ Ok tt) where
   pub frames_are : (slots : List ℕ) → every (λ s. ltb s configured) slots ≡ true → frames_from (length slots) (flat_map (record_in image) slots) ≡ map (frame_at image) slots
   unfolding every flat_map frames_from
   frames_are [] e = refl
@@ -154,7 +154,7 @@ module _ (current wanted : List ℕ) where
   unfolding changes
   inside = all_inside (configuration_in current) (configuration_in wanted)
 
-  module _ (g : reading wanted ≡ Good) where
+  module _ (g : reading wanted ≡ Ok tt) where
     pub list_long : length (list_of current wanted) ≡ 4 + total (λ s. 7 + size_of s) (changes current wanted)
     unfolding list_of
     list_long =

@@ -21,9 +21,6 @@ use Rattle.entries.specs.Valid.{Valid}
 use Rattle.records.specs.Layout.{Listed, listed, size, entry, extent, record_of, records, image_of}
 use Rattle.records.specs.Walk.{size_in, index_in, sub_in, data_in, fits, values, valued, sized, decoded, and_then, behind, walked, taken_in}
 use Rattle.records.specs.declared.types.Refusal.TheVariants.{OutOfRange, OutOfOrder}
-use Rattle.records.specs.declared.types.Walked.{Walked}
-use Rattle.records.specs.declared.types.Walked.TheVariants as walk
-use Rattle.records.specs.declared.types.Outcome.TheVariants.{Good, Refused}
 use Rattle.records.proofs.RightLaws.{AllRight}
 use Rattle.records.proofs.SizeLaws.{listed_extent}
 use Rattle.image.specs.Reading.{in_order, reading, finished, configuration_in}
@@ -35,6 +32,8 @@ use Rattle.promises.specs.Restoring.{InPlace, Complete, Proper, Holds}
 use Rattle.promises.proofs.RecordFrames.{bytes_join}
 use Rattle.promises.proofs.Running.{sizes}
 use Rattle.promises.proofs.Slots.{own_range}
+use Rattle.std.specs.Prelude.{Result, Ok, Err, ⊤}
+use Rattle.records.specs.declared.types.Refusal.{Refusal}
 
 -- ---- records in place
 
@@ -65,7 +64,7 @@ right_placed (e ∷ es) rest a h =
     (r.room, r.index, r.sub, r.sized, right_placed es (drop (7 + size e) rest) a.1 (omega arith))
 
 -- they are taken, or a value is out of its range
-placed_taken : (es : List Listed) (rest : List ℕ) → InPlace es rest → (walked es rest ≡ walk.Taken (extent es)) ⊎ (walked es rest ≡ walk.Refused OutOfRange)
+placed_taken : (es : List Listed) (rest : List ℕ) → InPlace es rest → (walked es rest ≡ Ok (extent es)) ⊎ (walked es rest ≡ Err OutOfRange)
 unfolding walked and_then behind extent decoded sized valued first
 placed_taken [] rest p = inl refl
 placed_taken (e ∷ es) rest p =
@@ -78,9 +77,9 @@ placed_taken (e ∷ es) rest p =
     )
     (go (fits e (data_in (size e) rest)) (walked es (drop (7 + size e) rest)) (placed_taken es (drop (7 + size e) rest) p.4))
   where
-    go : (f : Bool) (more : Walked) → (more ≡ walk.Taken (extent es)) ⊎ (more ≡ walk.Refused OutOfRange)
-        → (and_then (first (not f) (walk.Refused OutOfRange) (walk.Taken (7 + size e))) more ≡ walk.Taken (7 + size e + extent es))
-        ⊎ (and_then (first (not f) (walk.Refused OutOfRange) (walk.Taken (7 + size e))) more ≡ walk.Refused OutOfRange)
+    go : (f : Bool) (more : Result ℕ Refusal) → (more ≡ Ok (extent es)) ⊎ (more ≡ Err OutOfRange)
+        → (and_then (first (not f) (Err OutOfRange) (Ok (7 + size e))) more ≡ Ok (7 + size e + extent es))
+        ⊎ (and_then (first (not f) (Err OutOfRange) (Ok (7 + size e))) more ≡ Err OutOfRange)
     go false more m = inr refl
     go true more (inl t) = inl (ap (behind (7 + size e)) t)
     go true more (inr t) = inr (ap (behind (7 + size e)) t)
@@ -92,26 +91,31 @@ module _ {image : List ℕ} (c : Complete image) where
   long = omega (arith, length-drop 4 image, placed_long listed (drop 4 image) c.places, listed_extent, c.headed)
 
   -- is good, or is refused for a value or for a chain
-  pub read_as : (reading image ≡ Good) ⊎ ((reading image ≡ Refused OutOfRange) ⊎ (reading image ≡ Refused OutOfOrder))
+  pub read_as : (reading image ≡ Ok tt) ⊎ ((reading image ≡ Err OutOfRange) ⊎ (reading image ≡ Err OutOfOrder))
   unfolding reading finished taken_in first behind
   read_as =
       rw (le-ltb (length image) 4 c.headed, eq-eqb (little (take 4 image)) configured c.count)
       (go (walked listed (drop 4 image)) (placed_taken listed (drop 4 image) c.places))
     where
       ended : (ordered : Bool)
-          → (first (not ordered) (Refused OutOfOrder) Good ≡ Good)
-          ⊎ ((first (not ordered) (Refused OutOfOrder) Good ≡ Refused OutOfRange) ⊎ (first (not ordered) (Refused OutOfOrder) Good ≡ Refused OutOfOrder))
+          → (first {A = Result ⊤ Refusal} (not ordered) (Err OutOfOrder) (Ok tt) ≡ Ok tt)
+          ⊎ ((first {A = Result ⊤ Refusal} (not ordered) (Err OutOfOrder) (Ok tt) ≡ Err OutOfRange) ⊎ (first {A = Result ⊤ Refusal} (not ordered) (Err OutOfOrder) (Ok tt) ≡ Err OutOfOrder))
       ended true = inl refl
       ended false = inr (inr refl)
 
-      go : (w : Walked) → (w ≡ walk.Taken (extent listed)) ⊎ (w ≡ walk.Refused OutOfRange)
-          → (finished image (behind 4 w) ≡ Good) ⊎ ((finished image (behind 4 w) ≡ Refused OutOfRange) ⊎ (finished image (behind 4 w) ≡ Refused OutOfOrder))
+      go : (w : Result ℕ Refusal) → (w ≡ Ok (extent listed)) ⊎ (w ≡ Err OutOfRange)
+          → (finished image (behind 4 w) ≡ Ok tt) ⊎ ((finished image (behind 4 w) ≡ Err OutOfRange) ⊎ (finished image (behind 4 w) ≡ Err OutOfOrder))
       go w (inl t) = rw (t, le-ltb (4 + extent listed) (length image) (omega (arith, listed_extent, long))) (ended (in_order (configuration_in image)))
       go w (inr t) = inr (inl (rw t refl))
 
   -- a proper one is good
+<<<<<<< HEAD
   pub proper_good : Valid (configuration_in image) → reading image ≡ Good
   unfolding configuration_in fits
+=======
+  pub proper_good : Valid (configuration_in image) → reading image ≡ Ok tt
+  unfolding configuration_in fits is_good
+>>>>>>> 6923eeb97dc3ee1d88cbbefc44c53632861fd4a1
   proper_good v =
       accepts image (record {
         long = long;
@@ -126,7 +130,7 @@ module _ {image : List ℕ} (c : Complete image) where
       inside : (k : ℕ) → k < configured → fits (entry listed k) (get_or (configuration_in image) k 0) ≡ true
       inside k l = ap (λ (r : Range). is_ok (in_range r (get_or (configuration_in image) k 0))) (own_range k l) ∙ ap is_ok (v.ranged k l)
 
-pub good : {image : List ℕ} → Proper image → reading image ≡ Good
+pub good : {image : List ℕ} → Proper image → reading image ≡ Ok tt
 good p = proper_good p.complete p.valid
 
 -- ---- and what reading accepts is proper

@@ -17,7 +17,6 @@ use Rattle.sdo.specs.Answers.{size_of}
 use Rattle.sdo.specs.Frames.{reply, reply_to}
 use Rattle.records.specs.Layout.{record_in, image_of}
 use Rattle.records.specs.Walk.{number}
-use Rattle.records.specs.declared.types.Outcome.TheVariants.{Good, Refused}
 use Rattle.records.specs.declared.types.Refusal.{Refusal}
 use Rattle.records.specs.declared.types.Refusal.TheVariants.{OutOfRange, OutOfOrder}
 use Rattle.image.specs.Reading.{reading, configuration_in}
@@ -28,8 +27,6 @@ use Rattle.sending.proofs.Totals.{total_length}
 use Rattle.sending.proofs.Underway as Sending
 use Rattle.lists.specs.Changes.{changes, list_of}
 use Rattle.lists.specs.Listing.{left_by}
-use Rattle.lists.specs.declared.types.Made.{Made}
-use Rattle.lists.specs.declared.types.Made.TheVariants.{Done, Current, Wanted, NoRoom}
 use Rattle.gateway.specs.Restored.{told, outcome}
 use Rattle.promises.specs.Delivery.{frames_in}
 use Rattle.promises.specs.Running.{run}
@@ -42,6 +39,9 @@ use Rattle.promises.proofs.Reached.{only_valid, reaches}
 use Rattle.promises.proofs.Running.{always_sound}
 use Rattle.promises.proofs.Spent.{paid}
 use Rattle.promises.proofs.Underway.{Going, begun, ended, next, further, front_is}
+use Rattle.std.specs.Prelude.{Result, Ok, Err}
+use Rattle.lists.specs.declared.types.Unmade.{Unmade}
+use Rattle.lists.specs.declared.types.Unmade.TheVariants.{Current, Wanted, NoRoom}
 
 -- ---- a call, and a unit that holds the current configuration
 
@@ -141,13 +141,13 @@ pub turned_away_exactly : TurnedAwayExactly
 unfolding told below number
 turned_away_exactly current wanted buffer buffer' r first complete room called unit h = go (read_as complete)
   where
-    refused : {why : Refusal} → reading wanted ≡ Refused why → (r ≡ told (Wanted why)) × (Reaches unit (configuration_in wanted) → ⊥)
+    refused : {why : Refusal} → reading wanted ≡ Err why → (r ≡ told (Err (Wanted why))) × (Reaches unit (configuration_in wanted) → ⊥)
     refused e = (
       called.answered ∙ ap told (wanted_refused current wanted buffer (good first) e),
       λ reach. not_good (sym e ∙ proper_good complete (only_valid h reach first.valid)),
     )
 
-    go : (reading wanted ≡ Good) ⊎ ((reading wanted ≡ Refused OutOfRange) ⊎ (reading wanted ≡ Refused OutOfOrder))
+    go : (reading wanted ≡ Ok tt) ⊎ ((reading wanted ≡ Err OutOfRange) ⊎ (reading wanted ≡ Err OutOfOrder))
         → ((below r (pos 0) ≡ false) × Reaches unit (configuration_in wanted))
         ⊎ (((r ≡ neg_ℤ (pos 15)) ⊎ (r ≡ neg_ℤ (pos 16))) × (Reaches unit (configuration_in wanted) → ⊥))
     go (inl e) =
@@ -161,11 +161,11 @@ pub refused_lists_write_nothing : RefusedListsWriteNothing
 unfolding told left_by
 refused_lists_write_nothing current wanted buffer buffer' n called = called.bytes ∙ go (outcome current wanted buffer) called.answered
   where
-    go : (m : Made) → negsuc n ≡ told m → left_by m (list_of current wanted) buffer ≡ buffer
-    go (Done k) e = let z : ◌≡◌ {A = ℕ} 0 1 = cc in absurd (omega arith)
-    go (Current why) e = refl
-    go (Wanted why) e = refl
-    go NoRoom e = refl
+    go : (m : Result ℕ Unmade) → negsuc n ≡ told m → left_by m (list_of current wanted) buffer ≡ buffer
+    go (Ok k) e = let z : ◌≡◌ {A = ℕ} 0 1 = cc in absurd (omega arith)
+    go (Err (Current why)) e = refl
+    go (Err (Wanted why)) e = refl
+    go (Err NoRoom) e = refl
 
 pub one_list : OneList
 one_list current wanted buffer b₁ b₂ r s p q = (p.answered ∙ sym q.answered, p.bytes ∙ sym q.bytes)

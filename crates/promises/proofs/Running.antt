@@ -21,8 +21,6 @@ use Rattle.sdo.specs.declared.types.Answer.{Answer}
 use Rattle.sdo.specs.declared.types.Answer.TheVariants.{Silent, Aborted, Value, Written}
 use Rattle.sdo.specs.Served.{after}
 use Rattle.records.specs.Layout.{listed}
-use Rattle.records.specs.declared.types.Outcome.{Outcome}
-use Rattle.records.specs.declared.types.Outcome.TheVariants.{Good, Refused}
 use Rattle.image.specs.Loaded.{loaded}
 use Rattle.image.specs.Reading.{reading, configuration_in}
 use Rattle.image.proofs.reading.Acceptance.{accepted}
@@ -40,6 +38,8 @@ use Rattle.octets.specs.Little.{Bytes}
 use Rattle.promises.proofs.Accepted as Accepted
 use Rattle.promises.proofs.Forgetting.{agrees, size_stored}
 use Rattle.promises.proofs.Serving.{stays_valid}
+use Rattle.std.specs.Prelude.{Result, Ok, Err, ⊤}
+use Rattle.records.specs.declared.types.Refusal.{Refusal}
 
 -- ---- one event is what the definitions make of it
 
@@ -104,13 +104,13 @@ pub all_words : (image : List ℕ) → length (configuration_in image) ≡ confi
 unfolding configuration_in
 all_words image = values_length listed (drop 4 image) ∙ omega (arith, Places.counted, (Names.counted).0)
 
-pub valid_in : (image : List ℕ) → Bytes image → reading image ≡ Good → Valid (configuration_in image)
+pub valid_in : (image : List ℕ) → Bytes image → reading image ≡ Ok tt → Valid (configuration_in image)
 valid_in image b g = configuration_valid image (accepted image g) b
 
 -- a load leaves all that stands behind the configuration, but for the mark of a tick
-pub kept_by_load : (image unit : List ℕ) → configured ≤ length unit → (o : Outcome) (k : ℕ) → configured ≤ k → (k ≡ ticked_at → ⊥) → Kept k unit (loaded image unit o)
+pub kept_by_load : (image unit : List ℕ) → configured ≤ length unit → (o : Result ⊤ Refusal) (k : ℕ) → configured ≤ k → (k ≡ ticked_at → ⊥) → Kept k unit (loaded image unit o)
 unfolding loaded
-kept_by_load image unit long Good k h unmarked =
+kept_by_load image unit long (Ok _) k h unmarked =
     let rest = drop configured (unticked unit) in
     let words = configuration_in image in
     let n = k - length words in
@@ -121,22 +121,22 @@ kept_by_load image unit long Good k h unmarked =
           ∙ get_or-drop configured (unticked unit) n 0 ∙ ap (λ (i : ℕ). get_or (unticked unit) i 0) there ∙ forgets_only unit k unmarked;
       size = length-append words rest ∙ omega (arith, all_words image, length-drop configured (unticked unit), length_stays unit);
     }
-kept_by_load image unit long (Refused why) k h unmarked = record { word = refl; size = refl }
+kept_by_load image unit long (Err why) k h unmarked = record { word = refl; size = refl }
 
 -- so all that stands before what the last tick found
-pub low_by_load : (image unit : List ℕ) → configured ≤ length unit → (o : Outcome) (k : ℕ) → configured ≤ k → k < before_at → Kept k unit (loaded image unit o)
+pub low_by_load : (image unit : List ℕ) → configured ≤ length unit → (o : Result ⊤ Refusal) (k : ℕ) → configured ≤ k → k < before_at → Kept k unit (loaded image unit o)
 low_by_load image unit long o k h low = kept_by_load image unit long o k h (λ e. omega (arith, mark_behind))
 
 -- and every word's place
-pub size_by_load : (image unit : List ℕ) → configured ≤ length unit → (o : Outcome) → length (loaded image unit o) ≡ length unit
+pub size_by_load : (image unit : List ℕ) → configured ≤ length unit → (o : Result ⊤ Refusal) → length (loaded image unit o) ≡ length unit
 size_by_load image unit long o = (kept_by_load image unit long o configured (omega arith) (λ e. omega (arith, Names.counted, signals_behind, signals_before, mark_behind))).size
 
-loaded_valid : (image unit : List ℕ) → Bytes image → Valid unit → (o : Outcome) → reading image ≡ o → Valid (loaded image unit o)
+loaded_valid : (image unit : List ℕ) → Bytes image → Valid unit → (o : Result ⊤ Refusal) → reading image ≡ o → Valid (loaded image unit o)
 unfolding loaded
-loaded_valid image unit b v Good g =
-    agrees (loaded image unit Good) (configuration_in image) (λ k h. get_or-append (configuration_in image) (drop configured (unticked unit)) 0 k (omega (arith, all_words image)))
+loaded_valid image unit b v (Ok _) g =
+    agrees (loaded image unit (Ok tt)) (configuration_in image) (λ k h. get_or-append (configuration_in image) (drop configured (unticked unit)) 0 k (omega (arith, all_words image)))
     (valid_in image b g)
-loaded_valid image unit b v (Refused why) g = v
+loaded_valid image unit b v (Err why) g = v
 
 pub sound_after_load : (unit image : List ℕ) → Bytes image → Sound unit → Sound (happens (load image) unit)
 unfolding happens flags_at runs_at signals_at entry

@@ -1,10 +1,8 @@
 -- What is promised of a question why, document 02 (v), and of its refusals.
 -- Assumes nothing.
-use Rattle.std.specs.Prelude.{ℕ, ◌+◌, ◌<◌, Bool, true, false, not, ◌||◌, List, [], ◌∷◌, ◌≡◌, ℤ, pos, negsuc}
+use Rattle.std.specs.Prelude.{ℕ, ◌+◌, ◌<◌, Bool, true, false, not, ◌||◌, List, [], ◌∷◌, ◌≡◌, ℤ, pos, negsuc, Result, Ok, Err, ⊤}
 use Rattle.numbers.specs.Choice.{first}
 use Rattle.roles.specs.Values.{at_start}
-use Rattle.records.specs.declared.types.Outcome.{Outcome}
-use Rattle.records.specs.declared.types.Outcome.TheVariants.{Good, Refused}
 use Rattle.image.specs.Reading.{reading}
 use Rattle.sdo.specs.Answers.{answer}
 use Rattle.sdo.specs.declared.types.Answer.{Answer}
@@ -15,6 +13,7 @@ use Rattle.why.specs.Answer.{no_output}
 use Rattle.why.specs.Explains.{Explains}
 use Rattle.firmware.specs.Told.{ToldWhy}
 use Rattle.promises.specs.Running.{Event, frame, tick, load, happens, run, MadeOfBytes}
+use Rattle.records.specs.declared.types.Refusal.{Refusal}
 
 -- from the start, after any list of events and one tick more, of each output
 abbrev pub ToldAsItWas : Type 0
@@ -30,9 +29,9 @@ since_answer (Value word size) since = since
 since_answer (Written slot word) since = false
 
 -- and so does an image that is loaded
-unfoldable pub since_load : Outcome → Bool → Bool
-since_load Good since = false
-since_load (Refused why) since = since
+unfoldable pub since_load : Result ⊤ Refusal → Bool → Bool
+since_load (Ok _) since = false
+since_load (Err why) since = since
 
 unfoldable pub ticks_since : List Event → List ℕ → Bool → Bool
 ticks_since [] unit since = since

@@ -1,13 +1,12 @@
 -- "Bad input meets its listed refusal", of images: the refusals in the paper's order, and the numbers that C is told.
 -- Assumes nothing.
-use Rattle.std.specs.Prelude.{ℕ, ◌+◌, ◌<◌, ◌≤◌, Bool, not, ◌&&◌, ◌↔◌, ◌≡◌, List, [], ◌∷◌, ◌++◌, eqb, ltb, ℤ, pos, neg_ℤ, length, take, drop}
+use Rattle.std.specs.Prelude.{ℕ, ◌+◌, ◌<◌, ◌≤◌, Bool, not, ◌&&◌, ◌↔◌, ◌≡◌, List, [], ◌∷◌, ◌++◌, eqb, ltb, ℤ, pos, neg_ℤ, length, take, drop, Ok, Err}
 use Rattle.octets.specs.Little.{little}
 use Rattle.numbers.specs.Choice.{first}
 use Rattle.sdo.specs.Answers.{answer}
 use Rattle.sdo.specs.Served.{Served}
 use Rattle.records.specs.Layout.{Listed, listed, size}
 use Rattle.records.specs.Walk.{outcome_number, index_in, sub_in, size_in, data_in, fits}
-use Rattle.records.specs.declared.types.Outcome.TheVariants.{Good, Refused}
 use Rattle.records.specs.declared.types.Refusal.TheVariants.{NoRoom}
 use Rattle.image.specs.Reading.{reading, in_order, configuration_in}
 use Rattle.image.specs.Told.{told}
@@ -80,7 +79,7 @@ abbrev pub SameForC : Type 0
 SameForC =
     ((unit frame reply unit' reply' : List ℕ) (r : ℤ) → Replied unit frame reply unit' reply' r → Served unit frame reply unit' reply' (answer unit frame (length reply)))
     × ((unit image unit' : List ℕ) (r : ℤ) → ToldLoaded unit image unit' r → Loaded image unit unit' (reading image))
-    × ((unit image image' : List ℕ) (r : ℤ) → ToldSaved unit image image' r → Written unit image image' (first (ltb (length image) image_size) (Refused NoRoom) Good))
+    × ((unit image image' : List ℕ) (r : ℤ) → ToldSaved unit image image' r → Written unit image image' (first (ltb (length image) image_size) (Err NoRoom) (Ok tt)))
 
 -- two answers that the contracts of C's calls allow are equal, with all that they leave
 abbrev pub OneForC : Type 0

@@ -1,6 +1,6 @@
 -- What is promised of a controller that runs: after any list of frames, ticks and images that are loaded.
 -- Assumes nothing.
-use Rattle.std.specs.Prelude.{ℕ, ◌≡◌, List, [], ◌∷◌, ℤ, length}
+use Rattle.std.specs.Prelude.{ℕ, ◌≡◌, List, [], ◌∷◌, ℤ, length, Result, ⊤}
 use Rattle.numbers.specs.Choice.{first}
 use Rattle.dictionary.specs.Unit.{unit_size}
 use Rattle.entries.specs.Valid.{Valid}
@@ -8,13 +8,13 @@ use Rattle.roles.specs.Values.{at_start}
 use Rattle.sdo.specs.Answers.{answer}
 use Rattle.sdo.specs.declared.types.Answer.{Answer}
 use Rattle.sdo.specs.Served.{Served, after}
-use Rattle.records.specs.declared.types.Outcome.{Outcome}
 use Rattle.image.specs.Reading.{reading}
 use Rattle.image.specs.Loaded.{Loaded, loaded}
 use Rattle.unit.specs.Entry.{entry}
 use Rattle.controller.specs.Register.{any_flagged}
 use Rattle.controller.specs.Tick.{ticked}
 use Rattle.octets.specs.Little.{Bytes}
+use Rattle.records.specs.declared.types.Refusal.{Refusal}
 
 pub data Event : Type 0 where
   -- a frame, and the room that its reply has
@@ -37,7 +37,7 @@ run (e ∷ es) unit = run es (happens e unit)
 pub data Did : Event → List ℕ → List ℕ → Type 0 where
   by_frame : {f unit unit' : List ℕ} {room : ℕ} (reply reply' : List ℕ) (r : Answer) → length reply ≡ room → Served unit f reply unit' reply' r → Did (frame f room) unit unit'
   by_tick : {samples : List ℤ} {unit unit' : List ℕ} → unit' ≡ ticked samples unit → Did (tick samples) unit unit'
-  by_load : {image unit unit' : List ℕ} (r : Outcome) → Loaded image unit unit' r → Did (load image) unit unit'
+  by_load : {image unit unit' : List ℕ} (r : Result ⊤ Refusal) → Loaded image unit unit' r → Did (load image) unit unit'
 
 pub data Ran : List Event → List ℕ → List ℕ → Type 0 where
   stop : {unit : List ℕ} → Ran [] unit unit

@@ -26,7 +26,7 @@ use Rattle.records.specs.Layout.{Listed, size}
 use Rattle.records.specs.Rows.{role_at, entry_at, greatest}
 use Rattle.records.specs.Walk.{index_in, sub_in, size_in, data_in, data_there, fits, valued, sized, decoded}
 use Rattle.records.specs.declared.types.Refusal.TheVariants.{EndedEarly, NotNext, WrongSize, OutOfRange}
-use Rattle.records.specs.declared.types.Walked.TheVariants.{Taken, Refused}
+use Rattle.std.specs.Prelude.{Ok, Err}
 
 -- ---- the parts
 
@@ -126,16 +126,16 @@ whole_fits word h = ap is_ok (sym (whole_good word h))
 -- ---- the tests in their order
 
 module _ (e : Listed) (rest : List ℕ) where
-  pub no_head : length rest < 7 → Refused EndedEarly ≡ decoded e rest
+  pub no_head : length rest < 7 → Err EndedEarly ≡ decoded e rest
   unfolding decoded first
   no_head h = rw (lt-ltb (length rest) 7 h)
 
-  pub other_index : 7 ≤ length rest → (index_in rest ≡ e.index → ⊥) → Refused NotNext ≡ decoded e rest
+  pub other_index : 7 ≤ length rest → (index_in rest ≡ e.index → ⊥) → Err NotNext ≡ decoded e rest
   unfolding decoded first
   other_index h n = rw (le-ltb (length rest) 7 h, ne_eqb (index_in rest) e.index n)
 
   module _ (h : 7 ≤ length rest) (i : index_in rest ≡ e.index) where
-    pub other_sub : (sub_in rest ≡ e.sub → ⊥) → Refused NotNext ≡ decoded e rest
+    pub other_sub : (sub_in rest ≡ e.sub → ⊥) → Err NotNext ≡ decoded e rest
     unfolding decoded first
     other_sub n = rw (le-ltb (length rest) 7 h, eq-eqb (index_in rest) e.index i, ne_eqb (sub_in rest) e.sub n)
 
@@ -143,7 +143,7 @@ module _ (e : Listed) (rest : List ℕ) where
     unfolding decoded first
     name_right s = rw (le-ltb (length rest) 7 h, eq-eqb (index_in rest) e.index i, eq-eqb (sub_in rest) e.sub s)
 
-  pub other_size : {n : ℕ} → n ≡ size e → (size_in rest ≡ n → ⊥) → Refused WrongSize ≡ sized e rest
+  pub other_size : {n : ℕ} → n ≡ size e → (size_in rest ≡ n → ⊥) → Err WrongSize ≡ sized e rest
   unfolding sized first
   other_size q n = rw (ne_eqb (size_in rest) (size e) (λ r. n (r ∙ sym q)))
 
@@ -152,15 +152,15 @@ module _ (e : Listed) (rest : List ℕ) where
   size_right q n = rw (eq-eqb (size_in rest) (size e) (n ∙ q))
 
   module _ {n : ℕ} (q : n ≡ size e) (s : size_in rest ≡ n) where
-    pub no_data : length rest < 7 + n → Refused EndedEarly ≡ sized e rest
+    pub no_data : length rest < 7 + n → Err EndedEarly ≡ sized e rest
     unfolding valued first
     no_data h = rw (lt-ltb (length rest) (7 + size e) (omega arith)) at (size_right q s)
 
     module _ {word : ℕ} (h : 7 + n ≤ length rest) (d : word ≡ data_in n rest) where
-      pub unfit : {b : Bool} → b ≡ fits e word → b ≡ false → Refused OutOfRange ≡ sized e rest
+      pub unfit : {b : Bool} → b ≡ fits e word → b ≡ false → Err OutOfRange ≡ sized e rest
       unfolding valued first
       unfit f t = rw (le-ltb (length rest) (7 + size e) (omega arith), ← q, ← d, ← f, t) at (size_right q s)
 
-      pub fit : {b : Bool} → b ≡ fits e word → b ≡ true → Taken (7 + n) ≡ sized e rest
+      pub fit : {b : Bool} → b ≡ fits e word → b ≡ true → Ok (7 + n) ≡ sized e rest
       unfolding valued first
       fit f t = rw (le-ltb (length rest) (7 + size e) (omega arith), ← q, ← d, ← f, t) at (size_right q s)

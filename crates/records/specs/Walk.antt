@@ -1,6 +1,6 @@
 -- "Readings refuse, records in order": what bytes are as the records of some entries, one after the other.
 -- Assumes nothing.
-use Rattle.std.specs.Prelude.{ℕ, ◌+◌, Bool, not, ◌||◌, List, [], ◌∷◌, eqb, ltb, length, get_or, take, drop, is_ok}
+use Rattle.std.specs.Prelude.{ℕ, ◌+◌, Bool, not, ◌||◌, List, [], ◌∷◌, eqb, ltb, length, get_or, take, drop, Result, Ok, Err, ⊤, is_ok}
 use Rattle.octets.specs.Little.{little}
 use Rattle.numbers.specs.Choice.{first}
 use Rattle.dictionary.specs.Names.{configured}
@@ -8,10 +8,6 @@ use Rattle.entries.specs.Judge.{in_range}
 use Rattle.records.specs.Layout.{Listed, listed, size}
 use Rattle.records.specs.declared.types.Refusal.{Refusal}
 use Rattle.records.specs.declared.types.Refusal.TheVariants.{EndedEarly, WrongCount, NotNext, WrongSize, OutOfRange, OutOfOrder, LeftOver, NoRoom}
-use Rattle.records.specs.declared.types.Outcome.{Outcome}
-use Rattle.records.specs.declared.types.Outcome.TheVariants as outcome
-use Rattle.records.specs.declared.types.Walked.{Walked}
-use Rattle.records.specs.declared.types.Walked.TheVariants.{Taken, Refused}
 
 -- the paper's number of each refusal
 unfoldable pub number : Refusal → ℕ
@@ -25,9 +21,9 @@ number LeftOver = 7
 number NoRoom = 8
 
 -- and of an outcome: 0 where nothing is refused
-unfoldable pub outcome_number : Outcome → ℕ
-outcome_number outcome.Good = 0
-outcome_number (outcome.Refused why) = number why
+unfoldable pub outcome_number : Result ⊤ Refusal → ℕ
+outcome_number (Ok _) = 0
+outcome_number (Err why) = number why
 
 -- the parts of a record
 unfoldable pub index_in : List ℕ → ℕ
@@ -52,43 +48,43 @@ unfoldable pub fits : Listed → ℕ → Bool
 fits e word = is_ok (in_range e.range word)
 
 -- "1 ended early (for a record's data: after 4)", "5 range or not finite"
-unfoldable pub valued : Listed → List ℕ → Walked
+unfoldable pub valued : Listed → List ℕ → Result ℕ Refusal
 valued e rest =
-    first (ltb (length rest) (7 + size e)) (Refused EndedEarly)
-    (first (not (fits e (data_in (size e) rest))) (Refused OutOfRange)
-    (Taken (7 + size e)))
+    first (ltb (length rest) (7 + size e)) (Err EndedEarly)
+    (first (not (fits e (data_in (size e) rest))) (Err OutOfRange)
+    (Ok (7 + size e)))
 
 -- "4 size"
-unfoldable pub sized : Listed → List ℕ → Walked
-sized e rest = first (not (eqb (size_in rest) (size e))) (Refused WrongSize) (valued e rest)
+unfoldable pub sized : Listed → List ℕ → Result ℕ Refusal
+sized e rest = first (not (eqb (size_in rest) (size e))) (Err WrongSize) (valued e rest)
 
 -- "1 ended early", "3 not the next entry": the seven bytes of a record's head are one piece
-unfoldable pub decoded : Listed → List ℕ → Walked
+unfoldable pub decoded : Listed → List ℕ → Result ℕ Refusal
 decoded e rest =
-    first (ltb (length rest) 7) (Refused EndedEarly)
-    (first (not (eqb (index_in rest) e.index)) (Refused NotNext)
-    (first (not (eqb (sub_in rest) e.sub)) (Refused NotNext)
+    first (ltb (length rest) 7) (Err EndedEarly)
+    (first (not (eqb (index_in rest) e.index)) (Err NotNext)
+    (first (not (eqb (sub_in rest) e.sub)) (Err NotNext)
     (sized e rest)))
 
 -- so many bytes before what is taken
-unfoldable pub behind : ℕ → Walked → Walked
-behind n (Taken m) = Taken (n + m)
-behind n (Refused why) = Refused why
+unfoldable pub behind : ℕ → Result ℕ Refusal → Result ℕ Refusal
+behind n (Ok m) = Ok (n + m)
+behind n (Err why) = Err why
 
 -- the first record with a fault decides
-unfoldable pub and_then : Walked → Walked → Walked
-and_then (Taken n) next = behind n next
-and_then (Refused why) next = Refused why
+unfoldable pub and_then : Result ℕ Refusal → Result ℕ Refusal → Result ℕ Refusal
+and_then (Ok n) next = behind n next
+and_then (Err why) next = Err why
 
-unfoldable pub walked : List Listed → List ℕ → Walked
-walked [] rest = Taken 0
+unfoldable pub walked : List Listed → List ℕ → Result ℕ Refusal
+walked [] rest = Ok 0
 walked (e ∷ es) rest = and_then (decoded e rest) (walked es (drop (7 + size e) rest))
 
 -- "1 ended early; 2 count not 611", then the records
-unfoldable pub taken_in : List ℕ → Walked
+unfoldable pub taken_in : List ℕ → Result ℕ Refusal
 taken_in image =
-    first (ltb (length image) 4) (Refused EndedEarly)
-    (first (not (eqb (little (take 4 image)) configured)) (Refused WrongCount)
+    first (ltb (length image) 4) (Err EndedEarly)
+    (first (not (eqb (little (take 4 image)) configured)) (Err WrongCount)
     (behind 4 (walked listed (drop 4 image))))
 
 -- the words that the records hold

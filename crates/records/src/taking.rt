@@ -7,27 +7,27 @@ ghost use Rattle.records.specs.Walk.{sized, decoded};
 
 use crate::data::data_in;
 use crate::rows::role_at;
-use crate::types::{Refusal, Walked};
+use crate::types::Refusal;
 use entries::ranges::fits;
 use octets::little::{four_at, two_at};
 use roles::telling::{NUMBER, WHOLE};
 use roles::widths::width_of;
 
 // A record of a role and its size.
-fn take_sized(rest: &[u8], row: u32, sub: u8, role: u8, size: u8) -> Walked
+fn take_sized(rest: &[u8], row: u32, sub: u8, role: u8, size: u8) -> Result<usize, Refusal>
     requires { (7 ≤ length rest.now) × (role ≡ role_at row sub) × (size ≡ width (ranged role).kind) }
     ensures { result ≡ sized (entry_at row sub) rest.now }
 {
     if four_at(rest, 3) != size as u32 {
-        return Walked::Refused(Refusal::WrongSize);
+        return Err(Refusal::WrongSize);
     }
     if rest.len() < 7 + size as usize {
-        return Walked::Refused(Refusal::EndedEarly);
+        return Err(Refusal::EndedEarly);
     }
     if fits(role, data_in(rest, size)) {
-        return Walked::Taken(7 + size as usize);
+        return Ok(7 + size as usize);
     }
-    Walked::Refused(Refusal::OutOfRange)
+    Err(Refusal::OutOfRange)
 }
 
 // Of the small bytes: a number goes up to 15, before it a role's number is the greatest value.
@@ -41,38 +41,38 @@ fn greatest_of(role: u8) -> u8
 }
 
 // A byte from 0 to its greatest value, as every second entry is.
-fn take_small(rest: &[u8], row: u32, sub: u8, role: u8) -> Walked
+fn take_small(rest: &[u8], row: u32, sub: u8, role: u8) -> Result<usize, Refusal>
     requires { (7 ≤ length rest.now) × (role ≡ role_at row sub) × (role < 8) }
     ensures { result ≡ sized (entry_at row sub) rest.now }
 {
     if four_at(rest, 3) != 1 {
-        return Walked::Refused(Refusal::WrongSize);
+        return Err(Refusal::WrongSize);
     }
     if rest.len() < 8 {
-        return Walked::Refused(Refusal::EndedEarly);
+        return Err(Refusal::EndedEarly);
     }
     if (greatest_of(role) as u32) < data_in(rest, 1) % 0x100 {
-        return Walked::Refused(Refusal::OutOfRange);
+        return Err(Refusal::OutOfRange);
     }
-    Walked::Taken(8)
+    Ok(8)
 }
 
 // An INTEGER16 with its whole range.
-fn take_whole(rest: &[u8], row: u32, sub: u8, role: u8) -> Walked
+fn take_whole(rest: &[u8], row: u32, sub: u8, role: u8) -> Result<usize, Refusal>
     requires { (7 ≤ length rest.now) × (role ≡ role_at row sub) × (17 ≤ role) }
     ensures { result ≡ sized (entry_at row sub) rest.now }
 {
     if four_at(rest, 3) != 2 {
-        return Walked::Refused(Refusal::WrongSize);
+        return Err(Refusal::WrongSize);
     }
     if rest.len() < 9 {
-        return Walked::Refused(Refusal::EndedEarly);
+        return Err(Refusal::EndedEarly);
     }
-    Walked::Taken(9)
+    Ok(9)
 }
 
 // A record whose name is right.
-fn take_named(rest: &[u8], row: u32, sub: u8) -> Walked
+fn take_named(rest: &[u8], row: u32, sub: u8) -> Result<usize, Refusal>
     requires { 7 ≤ length rest.now }
     ensures { result ≡ sized (entry_at row sub) rest.now }
 {
@@ -87,17 +87,17 @@ fn take_named(rest: &[u8], row: u32, sub: u8) -> Walked
 }
 
 // Any bytes.
-pub fn take_record(rest: &[u8], row: u32, sub: u8) -> Walked
+pub fn take_record(rest: &[u8], row: u32, sub: u8) -> Result<usize, Refusal>
     ensures { result ≡ decoded (entry_at row sub) rest.now }
 {
     if rest.len() < 7 {
-        return Walked::Refused(Refusal::EndedEarly);
+        return Err(Refusal::EndedEarly);
     }
     if two_at(rest, 0) as u32 != row / 0x1_0000 {
-        return Walked::Refused(Refusal::NotNext);
+        return Err(Refusal::NotNext);
     }
     if rest[2] != sub {
-        return Walked::Refused(Refusal::NotNext);
+        return Err(Refusal::NotNext);
     }
     take_named(rest, row, sub)
 }

@@ -7,13 +7,13 @@ ghost use Rattle.records.specs.Rows.{row_of};
 ghost use Rattle.records.specs.Walk.{walked, taken_in};
 
 use crate::taking::take_record;
-use crate::types::{Refusal, Walked};
+use crate::types::Refusal;
 use crate::walking::rows::ROWS;
 use dictionary::slots::EC_VALUE;
 use octets::little::four_at;
 
 // The records of a row, one after the other.
-fn take_row(body: &[u8], row: u32) -> Walked
+fn take_row(body: &[u8], row: u32) -> Result<usize, Refusal>
     ensures { result ≡ walked (row_of row) body.now }
 {
     let last = (row / 0x100 % 0x10) as u8;
@@ -21,46 +21,46 @@ fn take_row(body: &[u8], row: u32) -> Walked
     let mut rest = body;
     while sub <= last {
         let record = take_record(rest, row, sub);
-        let Walked::Taken(n) = record else {
+        let Ok(n) = record else {
             return record;
         };
         rest = &rest[n..];
         sub += 1;
     }
-    Walked::Taken(body.len() - rest.len())
+    Ok(body.len() - rest.len())
 }
 
 // The records of some rows, one after the other.
-fn walk_rows(body: &[u8], rows: &[u32]) -> Walked
+fn walk_rows(body: &[u8], rows: &[u32]) -> Result<usize, Refusal>
     ensures { result ≡ walked (flat_map row_of rows.now) body.now }
 {
     let mut at: usize = 0;
     let mut rest = body;
     while at < rows.len() {
         let row = take_row(rest, rows[at]);
-        let Walked::Taken(n) = row else {
+        let Ok(n) = row else {
             return row;
         };
         rest = &rest[n..];
         at += 1;
     }
-    Walked::Taken(body.len() - rest.len())
+    Ok(body.len() - rest.len())
 }
 
 // Any bytes, as an image: its count, then its records.
-pub fn walk(image: &[u8]) -> Walked
+pub fn walk(image: &[u8]) -> Result<usize, Refusal>
     ensures { result ≡ taken_in image.now }
 {
     if image.len() < 4 {
-        return Walked::Refused(Refusal::EndedEarly);
+        return Err(Refusal::EndedEarly);
     }
     if four_at(image, 0) as usize != EC_VALUE {
-        return Walked::Refused(Refusal::WrongCount);
+        return Err(Refusal::WrongCount);
     }
     let rows = ROWS;
     let records = walk_rows(&image[4..], &rows);
-    let Walked::Taken(n) = records else {
+    let Ok(n) = records else {
         return records;
     };
-    Walked::Taken(4 + n)
+    Ok(4 + n)
 }

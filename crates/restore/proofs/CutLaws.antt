@@ -12,11 +12,11 @@ use borrow.Author.Tests.{lt-ltb, le-ltb, ltb-true, ltb-false}
 use Rattle.numbers.specs.Choice.{first}
 use Rattle.records.specs.Layout.{Listed, listed, size, extent}
 use Rattle.records.specs.Walk.{index_in, sub_in, size_in, data_in, valued, sized, decoded, and_then, walked, taken_in}
-use Rattle.records.specs.declared.types.Walked.{Walked}
-use Rattle.records.specs.declared.types.Walked.TheVariants.{Taken, Refused}
 use Rattle.records.proofs.SizeLaws.{listed_extent}
 use Rattle.records.proofs.WalkLaws.{image_taken}
 use Rattle.image.specs.Reading.{finished, reading}
+use Rattle.std.specs.Prelude.{Result, Ok, Err}
+use Rattle.records.specs.declared.types.Refusal.{Refusal}
 
 -- ---- the front of a list, with anything behind it
 
@@ -84,9 +84,9 @@ read_front : (a b : List ℕ) → 5207 < length a → reading (a ++ b) ≡ readi
 unfolding reading finished first
 read_front a b h = ap (finished (a ++ b)) (taken_front a b (omega arith)) ∙ go (taken_in a) refl
   where
-    go : (w : Walked) → taken_in a ≡ w → finished (a ++ b) w ≡ finished a w
-    go (Refused why) t = refl
-    go (Taken n) t =
+    go : (w : Result ℕ Refusal) → taken_in a ≡ w → finished (a ++ b) w ≡ finished a w
+    go (Err why) t = refl
+    go (Ok n) t =
         let all = image_taken a t in
         let both = length-append a b in
         rw (lt-ltb n (length (a ++ b)) (omega (arith, listed_extent)), lt-ltb n (length a) (omega (arith, listed_extent)))

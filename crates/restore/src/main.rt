@@ -9,34 +9,15 @@ mod rows;
 mod showing;
 mod words;
 
-ghost use Rattle.std.specs.Prelude.{◌≡◌};
-ghost use Rattle.records.specs.Walk.{number};
-
 use buffer::{Buffer, ROOM, front, put, put_decimal};
 use files::{argument, fetch, keep};
 use lists::make_list;
-use lists::types::Made;
+use lists::types::Unmade;
 use octets::little::four_at;
 use records::types::Refusal;
 use rows::{put_row, row_of};
 use showing::show;
 use std::env::{Env, FillError};
-
-// The paper's number.
-fn number_of(why: Refusal) -> u8
-    ensures { result ≡ number why }
-{
-    match why {
-        Refusal::EndedEarly => 1,
-        Refusal::WrongCount => 2,
-        Refusal::NotNext => 3,
-        Refusal::WrongSize => 4,
-        Refusal::OutOfRange => 5,
-        Refusal::OutOfOrder => 6,
-        Refusal::LeftOver => 7,
-        Refusal::NoRoom => 8,
-    }
-}
 
 fn put_reason(line: &mut Buffer, at: usize, why: Refusal) -> usize {
     let row = row_of(
@@ -49,7 +30,7 @@ fn put_reason(line: &mut Buffer, at: usize, why: Refusal) -> usize {
 7 there are bytes behind the last record
 8 there is no room
 ",
-        &[b'0' + number_of(why) % 10],
+        &[b'0' + why.number() % 10],
     );
     put_row(line, at, row, 2, 0, 0)
 }
@@ -58,7 +39,7 @@ fn refuse(rt: &impl Print, what: &[u8], why: Refusal) {
     let mut line = [0u8; ROOM];
     let mut at = put(&mut line, 0, what);
     at = put(&mut line, at, b" refused, ");
-    at = put_decimal(&mut line, at, number_of(why) as u64);
+    at = put_decimal(&mut line, at, why.number() as u64);
     at = put(&mut line, at, b": ");
     at = put_reason(&mut line, at, why);
     at = put(&mut line, at, b"\n");
@@ -85,14 +66,14 @@ fn use_list(rt: &HostRuntime, current: &[u8], list: &[u8], shown: bool) -> bool 
 fn restore(rt: &HostRuntime, current: &[u8], wanted: &[u8], shown: bool) {
     let mut list = [0u8; ROOM];
     match make_list(current, wanted, &mut list) {
-        Made::Done(long) => {
+        Ok(long) => {
             if use_list(rt, current, front(&list, long), shown) {
                 let _ = rt.write_all(b"done\n");
             }
         }
-        Made::Current(why) => refuse(rt, b"current image", why),
-        Made::Wanted(why) => refuse(rt, b"wanted image", why),
-        Made::NoRoom => refuse(rt, b"list", Refusal::NoRoom),
+        Err(Unmade::Current(why)) => refuse(rt, b"current image", why),
+        Err(Unmade::Wanted(why)) => refuse(rt, b"wanted image", why),
+        Err(Unmade::NoRoom) => refuse(rt, b"list", Refusal::NoRoom),
     }
 }
 

@@ -21,13 +21,10 @@ use Rattle.records.proofs.RightLaws.{Right, AllRight}
 use Rattle.records.proofs.SizeLaws.{listed_extent}
 use Rattle.records.proofs.WalkLaws.{image_taken}
 use Rattle.records.specs.declared.types.Refusal.TheVariants.{OutOfOrder, LeftOver}
-use Rattle.records.specs.declared.types.Walked.{Walked}
-use Rattle.records.specs.declared.types.Walked.TheVariants as walked
-use Rattle.records.specs.declared.types.Walked.TheVariants.{Taken}
 use Rattle.records.specs.declared.types.Refusal.{Refusal}
-use Rattle.records.specs.declared.types.Outcome.TheVariants.{Good, Refused}
 use Rattle.image.specs.Places.{Pair, number_at, rising, rises}
 use Rattle.image.specs.Reading.{in_place, in_order, configuration_in, finished, reading}
+use Rattle.std.specs.Prelude.{Result, Ok, Err}
 
 pub value_at : (es : List Listed) (rest : List ℕ) (slot : ℕ) → slot < length es
     → get_or (values es rest) slot 0 ≡ data_in (size (entry es slot)) (drop (offset es slot) rest)
@@ -106,23 +103,23 @@ ordered_by_places image long pairs e =
 
 -- ---- an image whose records are good and that has nothing behind them
 
-pub exact : (image : List ℕ) {n : ℕ} → taken_in image ≡ Taken n → length image ≤ n → length image ≡ 5207
+pub exact : (image : List ℕ) {n : ℕ} → taken_in image ≡ Ok n → length image ≤ n → length image ≡ 5207
 exact image t h = let all = image_taken image t in omega (arith, listed_extent)
 
-module _ (image : List ℕ) (n : ℕ) {records : Walked} (r : records ≡ taken_in image) (taken : records ≡ Taken n) where
-  pub more_behind : n < length image → Refused LeftOver ≡ reading image
+module _ (image : List ℕ) (n : ℕ) {records : Result ℕ Refusal} (r : records ≡ taken_in image) (taken : records ≡ Ok n) where
+  pub more_behind : n < length image → Err LeftOver ≡ reading image
   unfolding reading finished first
   more_behind h = rw (← r, taken, lt-ltb n (length image) h)
 
   module _ (h : length image ≤ n) {b : Bool} (e : b ≡ in_order (configuration_in image)) where
-    pub ordered : b ≡ true → Good ≡ reading image
+    pub ordered : b ≡ true → Ok tt ≡ reading image
     unfolding reading finished first
     ordered t = rw (← r, taken, le-ltb n (length image) h, ← e, t)
 
-    pub disordered : b ≡ false → Refused OutOfOrder ≡ reading image
+    pub disordered : b ≡ false → Err OutOfOrder ≡ reading image
     unfolding reading finished first
     disordered t = rw (← r, taken, le-ltb n (length image) h, ← e, t)
 
-pub not_walked : (image : List ℕ) {why : Refusal} {records : Walked} → records ≡ taken_in image → records ≡ walked.Refused why → Refused why ≡ reading image
+pub not_walked : (image : List ℕ) {why : Refusal} {records : Result ℕ Refusal} → records ≡ taken_in image → records ≡ Err why → Err why ≡ reading image
 unfolding reading finished
 not_walked image r e = rw (← r, e)

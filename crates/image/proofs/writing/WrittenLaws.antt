@@ -13,12 +13,12 @@ use Rattle.numbers.specs.Choice.{first}
 use Rattle.dictionary.specs.Names.{configured}
 use Rattle.records.specs.Layout.{Listed, listed, records, image_of, extent}
 use Rattle.records.proofs.SizeLaws.{listed_extent, image_length}
-use Rattle.records.specs.declared.types.Outcome.TheVariants.{Good, Refused}
 use Rattle.records.specs.declared.types.Refusal.TheVariants.{NoRoom}
 use Rattle.image.specs.declared.writing.types.Front.{Front}
 use Rattle.image.specs.Placing.{Room, Placed}
 use Rattle.image.specs.Written.{image_size, Written}
 use Rattle.image.proofs.writing.PlacingLaws.{put_behind}
+use Rattle.std.specs.Prelude.{Ok, Err}
 
 many : 611 ≡ configured
 unfolding configured
@@ -29,7 +29,7 @@ abbrev pub start : Front
 start = record { slot = 0; place = 4 }
 
 module _ (words buffer : List ℕ) where
-  pub no_room : length buffer < 5207 → Written words buffer buffer (Refused NoRoom)
+  pub no_room : length buffer < 5207 → Written words buffer buffer (Err NoRoom)
   unfolding image_size first
   no_room h = record { answered = rw (lt-ltb (length buffer) 5207 h); bytes = rw (lt-ltb (length buffer) 5207 h) }
 
@@ -47,6 +47,6 @@ module _ (words buffer : List ℕ) where
         ∙ sets-eq (image_of words) buffer 0 (omega arith)
         ∙ rw long
 
-    pub image_written : {image' : List ℕ} {to : Front} → Placed es words start image image' to → Written words buffer image' Good
+    pub image_written : {image' : List ℕ} {to : Front} → Placed es words start image image' to → Written words buffer image' (Ok tt)
     unfolding image_size first
     image_written p = record { answered = rw (le-ltb (length buffer) 5207 room); bytes = rw (le-ltb (length buffer) 5207 room) (whole p) }

@@ -18,7 +18,6 @@ use Rattle.dictionary.specs.Names.{configured, slot_of}
 use Rattle.dictionary.specs.Rows.{width}
 use Rattle.entries.specs.Judge.{held}
 use Rattle.records.specs.Layout.{listed, size, offset, record_in}
-use Rattle.records.specs.declared.types.Outcome.TheVariants.{Good}
 use Rattle.image.specs.Reading.{reading, configuration_in}
 use Rattle.sending.specs.Sending.{slots_from, stretch, order, picked, differs, grows, rises, falls, sent, sends}
 use Rattle.sending.proofs.Counting.{all_inside, each_inside}
@@ -28,6 +27,7 @@ use Rattle.lists.specs.Noting.{Stands, record_from, State, Room, Further, joined
 use Rattle.lists.specs.declared.changes.types.Noted.{Noted}
 use Rattle.lists.proofs.changes.NotingLaws.{fewer, stretch_length}
 use Rattle.lists.proofs.changes.StandingLaws.{record_is, stands}
+use Rattle.std.specs.Prelude.{Ok}
 
 -- ---- stretch after stretch
 
@@ -75,7 +75,7 @@ module _ (a b : List ℕ) where
 
 -- ---- the records at these places
 
-same_records : (image : List ℕ) → reading image ≡ Good → (ss : List ℕ) → every (λ s. ltb s configured) ss ≡ true
+same_records : (image : List ℕ) → reading image ≡ Ok tt → (ss : List ℕ) → every (λ s. ltb s configured) ss ≡ true
     → flat_map (record_from image) (map place_of ss) ≡ flat_map (record_in image) ss
 unfolding every flat_map configured
 same_records image g [] e = refl
@@ -134,7 +134,7 @@ module _ (current wanted : List ℕ) where
       let down = fewer_picked (falls (configuration_in current) (configuration_in wanted)) order in
       (omega (arith, many, all_slots), omega (arith, many, all_slots))
 
-  module _ (g : reading wanted ≡ Good) where
+  module _ (g : reading wanted ≡ Ok tt) where
     -- the list, by these places
     pub list_by_places : bytes 4 (length (places current wanted)) ++ flat_map (record_from wanted) (places current wanted) ≡ list_of current wanted
     unfolding list_of places changes
@@ -152,7 +152,7 @@ module _ (current wanted : List ℕ) where
         let short = length-map (changes current wanted) place_of in
         rw (getD_place (changes current wanted) k (omega arith)) (stands wanted g _ (each_inside (configuration_in current) (configuration_in wanted) k (omega arith)))
 
-module _ (current wanted notes notes' : List ℕ) (n : Noted) (g : reading wanted ≡ Good) (f : Further current wanted order notes (record { low = 611; high = 611; long = 4 }) notes' n) where
+module _ (current wanted notes notes' : List ℕ) (n : Noted) (g : reading wanted ≡ Ok tt) (f : Further current wanted order notes (record { low = 611; high = 611; long = 4 }) notes' n) where
   end : State wanted notes (0 + length (ups current wanted)) (places current wanted) notes' n
   unfolding sent sends places changes picked flat_map ups
   end =

@@ -12,7 +12,6 @@ use Rattle.dictionary.specs.declared.types.Kind.{Kind}
 use Rattle.dictionary.specs.declared.types.Kind.TheVariants.{Unsigned8, Integer16, Unsigned16, Real32, Unsigned32}
 use Rattle.records.specs.Layout.{Listed, listed, size, entry, offset, record_in}
 use Rattle.records.specs.Walk.{size_in}
-use Rattle.records.specs.declared.types.Outcome.TheVariants.{Good}
 use Rattle.records.proofs.RightLaws.{Right}
 use Rattle.roles.proofs.widths.WidthLaws.{at_most_four}
 use Rattle.image.specs.Reading.{reading, configuration_in}
@@ -20,6 +19,7 @@ use Rattle.image.proofs.reading.Acceptance.{accepted}
 use Rattle.image.proofs.reading.PlaceLaws.{counted, value_at, right_at}
 use Rattle.lists.specs.Changes.{place_of}
 use Rattle.lists.specs.Noting.{Stands, record_from, word_from}
+use Rattle.std.specs.Prelude.{Ok}
 
 at_least_one : (k : Kind) → 0 < width k
 unfolding width
@@ -40,7 +40,7 @@ next_place : (slot : ℕ) → slot < 611 → place_of (suc slot) ≡ place_of sl
 unfolding place_of
 next_place slot h = let next = offset_next listed slot (omega (arith, counted)) in omega arith
 
-module _ (image : List ℕ) (g : reading image ≡ Good) (slot : ℕ) (h : slot < 611) where
+module _ (image : List ℕ) (g : reading image ≡ Ok tt) (slot : ℕ) (h : slot < 611) where
   pub at_place : drop (offset listed slot) (drop 4 image) ≡ drop (place_of slot) image
   unfolding place_of
   at_place = drop-drop (offset listed slot) 4 image

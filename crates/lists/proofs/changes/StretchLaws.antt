@@ -11,7 +11,6 @@ use Rattle.numbers.specs.Order.{below}
 use Rattle.numbers.specs.Signed.{signed16}
 use Rattle.entries.specs.Judge.{held}
 use Rattle.records.specs.Walk.{size_in}
-use Rattle.records.specs.declared.types.Outcome.TheVariants.{Good}
 use Rattle.image.specs.Reading.{reading, configuration_in}
 use Rattle.sending.specs.Sending.{stretch, differs}
 use Rattle.lists.specs.Changes.{place_of}
@@ -19,6 +18,7 @@ use Rattle.lists.specs.Noting.{Stands, Both, record_from, word_from, Once, Room,
 use Rattle.lists.specs.declared.changes.types.Noted.{Noted}
 use Rattle.lists.proofs.changes.NotingLaws.{fewer, further_none, further_once, stretch_none, stretch_next, stretch_length}
 use Rattle.lists.proofs.changes.StandingLaws.{next_is, size_is, stands, word_is, before_the_end}
+use Rattle.std.specs.Prelude.{Ok}
 
 pub record Way (current wanted notes₀ : List ℕ) (from to : ℕ) (had : Noted) (notes : List ℕ) (n : Noted) (slot place : ℕ) : Type 0 where
   pub here : place ≡ place_of slot
@@ -37,7 +37,7 @@ way_done {current} {wanted} {notes₀} {from} {to} {had} {notes} {n} {slot} w h 
     subst (λ (s : ℕ). Further current wanted (stretch from s) notes₀ had notes n) same w.done
 
 module _ (current wanted notes₀ : List ℕ) (from to : ℕ) (had : Noted) (notes : List ℕ) (n : Noted) (slot place : ℕ)
-    (g : reading current ≡ Good) (h : reading wanted ≡ Good) (top : to ≤ 611) (r : Room (to - from) notes₀ had)
+    (g : reading current ≡ Ok tt) (h : reading wanted ≡ Ok tt) (top : to ≤ 611) (r : Room (to - from) notes₀ had)
     (w : Way current wanted notes₀ from to had notes n slot place) (more : slot < to) where
   small : slot < 611
   small = omega arith
@@ -69,7 +69,7 @@ module _ (current wanted notes₀ : List ℕ) (from to : ℕ) (had : Noted) (not
         let room = length-drop place wanted in
         rw (← w.here, ← both.size_second) (sym (length-take-le (7 + size) (drop place wanted) (omega (arith, both.size_second))))
 
-    word_at : (image : List ℕ) → reading image ≡ Good → word_from image place ≡ get_or (configuration_in image) slot 0
+    word_at : (image : List ℕ) → reading image ≡ Ok tt → word_from image place ≡ get_or (configuration_in image) slot 0
     word_at image q = ap (word_from image) w.here ∙ word_is image q slot small
 
     pub way_on : {notes' : List ℕ} {n' : Noted}

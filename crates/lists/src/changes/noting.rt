@@ -1,9 +1,8 @@
 // The notes of a list: the places of the records to send, in their order.
-ghost use Rattle.std.specs.Prelude.{◌≡◌, ◌+◌, ◌-◌, ◌<◌, ◌≤◌, eqb, length};
+ghost use Rattle.std.specs.Prelude.{◌≡◌, ◌+◌, ◌-◌, ◌<◌, ◌≤◌, eqb, length, Ok};
 ghost use Rattle.std.proofs.lemmas.List.Edits.{sets};
 ghost use Rattle.numbers.specs.Order.{below};
 ghost use Rattle.numbers.specs.Signed.{signed16};
-ghost use Rattle.records.specs.declared.types.Outcome.TheVariants as outcome;
 ghost use Rattle.image.specs.Reading.{reading, configuration_in};
 ghost use Rattle.sending.specs.Sending.{stretch};
 ghost use Rattle.lists.specs.Changes.{place_of, places, noted};
@@ -68,7 +67,7 @@ fn note_stretch(
     at: usize,
     had: Noted,
 ) -> Noted
-    requires { (reading current.now ≡ outcome.Good) × (reading wanted.now ≡ outcome.Good) × (from ≤ to) × (to ≤ 611) × (at ≡ place_of from) × Room (to - from) notes.old had }
+    requires { (reading current.now ≡ Ok tt) × (reading wanted.now ≡ Ok tt) × (from ≤ to) × (to ≤ 611) × (at ≡ place_of from) × Room (to - from) notes.old had }
     ensures { Further current.now wanted.now (stretch from to) notes.old had notes.new result }
 {
     let mut n = had;
@@ -85,7 +84,7 @@ fn note_stretch(
 
 // All entries: 7148h before 7120h, else in the order of the image; each stretch with the place where its first record begins.
 pub fn note_all(current: &[u8], wanted: &[u8], notes: &mut [u16]) -> Noted
-    requires { (reading current.now ≡ outcome.Good) × (reading wanted.now ≡ outcome.Good) × (length notes.old ≡ 1222) }
+    requires { (reading current.now ≡ Ok tt) × (reading wanted.now ≡ Ok tt) × (length notes.old ≡ 1222) }
     ensures { (result ≡ noted current.now wanted.now) × (notes.new ≡ sets notes.old result.low (places current.now wanted.now)) }
 {
     let none = Noted {

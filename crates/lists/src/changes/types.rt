@@ -1,6 +1,5 @@
 // What is found between two images.
 use dictionary::slots::EC_VALUE;
-use records::types::Refusal;
 
 // Room for every entry of the configuration before the middle, and for every one behind it.
 pub const NOTES: usize = EC_VALUE + EC_VALUE;
@@ -11,12 +10,4 @@ pub struct Noted {
     pub low: usize,
     pub high: usize,
     pub long: usize,
-}
-
-// Or which image is refused, and why.
-#[derive(Clone, Copy)]
-pub enum Found {
-    Places(Noted),
-    Current(Refusal),
-    Wanted(Refusal),
 }

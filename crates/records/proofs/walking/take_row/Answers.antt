@@ -16,15 +16,15 @@ returns-in_default c =
 
 pub slice_bounds-rest-count : goal.slice_bounds-rest-count
 slice_bounds-rest-count c =
-    let whole = whole_taken _ _ (sym c.take_record-record.ensures ∙ c.in-Taken.is) in omega arith
+    let whole = whole_taken _ _ (sym c.take_record-record.ensures ∙ c.in-Ok.is) in omega arith
 
 pub slice_bounds-rest-start : goal.slice_bounds-rest-start
 slice_bounds-rest-start c =
-    let whole = whole_taken _ _ (sym c.take_record-record.ensures ∙ c.in-Taken.is) in omega arith
+    let whole = whole_taken _ _ (sym c.take_record-record.ensures ∙ c.in-Ok.is) in omega arith
 
 pub loop-sub-preserved : goal.loop-sub-preserved
 loop-sub-preserved c =
-    let m = c.loop-sub in (m.invariant.0, row_on _ _ _ _ m.rest.now m.invariant.1.1 c.loop-sub-test.true m.invariant.1.0 (sym c.take_record-record.ensures ∙ c.in-Taken.is))
+    let m = c.loop-sub in (m.invariant.0, row_on _ _ _ _ m.rest.now m.invariant.1.1 c.loop-sub-test.true m.invariant.1.0 (sym c.take_record-record.ensures ∙ c.in-Ok.is))
 
 pub returns : goal.returns
 returns c = let m = c.loop-sub in row_done _ _ _ _ m.rest.now m.invariant.1.1 c.loop-sub-test.false

@@ -27,9 +27,9 @@ returns-in_default c =
 pub overflow_add-result : goal.overflow_add-result
 unfolding configured listed row_of row_from entry_at role_at first_sub last_sub first flat_map ranged ranges chosen
 overflow_add-result c =
-    let fit = records_fit c.args.image.now c.if-image-lt4.false c.four_at.ensures c.if-four_at-ne-EC_VALUE.false refl c.walk_rows-records.ensures c.in-Taken.is in omega arith
+    let fit = records_fit c.args.image.now c.if-image-lt4.false c.four_at.ensures c.if-four_at-ne-EC_VALUE.false refl c.walk_rows-records.ensures c.in-Ok.is in omega arith
 
 pub returns : goal.returns
 unfolding configured listed row_of row_from entry_at role_at first_sub last_sub first flat_map ranged ranges chosen
 returns c =
-    records_taken c.args.image.now c.if-image-lt4.false c.four_at.ensures c.if-four_at-ne-EC_VALUE.false refl c.walk_rows-records.ensures c.in-Taken.is
+    records_taken c.args.image.now c.if-image-lt4.false c.four_at.ensures c.if-four_at-ne-EC_VALUE.false refl c.walk_rows-records.ensures c.in-Ok.is

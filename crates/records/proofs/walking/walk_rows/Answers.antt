@@ -16,15 +16,15 @@ returns-in_default c =
 
 pub slice_bounds-rest-count : goal.slice_bounds-rest-count
 slice_bounds-rest-count c =
-    let taken = then_taken (row_of _) [] _ (sym c.take_row-row.ensures ∙ c.in-Taken.is) in omega arith
+    let taken = then_taken (row_of _) [] _ (sym c.take_row-row.ensures ∙ c.in-Ok.is) in omega arith
 
 pub slice_bounds-rest-start : goal.slice_bounds-rest-start
 slice_bounds-rest-start c =
-    let taken = then_taken (row_of _) [] _ (sym c.take_row-row.ensures ∙ c.in-Taken.is) in omega arith
+    let taken = then_taken (row_of _) [] _ (sym c.take_row-row.ensures ∙ c.in-Ok.is) in omega arith
 
 pub loop-at-preserved : goal.loop-at-preserved
 loop-at-preserved c =
-    let s = c.args in let m = c.loop-at in rows_on s.rows.now m.at _ s.body.now m.rest.now m.invariant.1 c.loop-at-test.true m.invariant.0 (sym c.take_row-row.ensures ∙ c.in-Taken.is)
+    let s = c.args in let m = c.loop-at in rows_on s.rows.now m.at _ s.body.now m.rest.now m.invariant.1 c.loop-at-test.true m.invariant.0 (sym c.take_row-row.ensures ∙ c.in-Ok.is)
 
 pub returns : goal.returns
 returns c = let s = c.args in let m = c.loop-at in rows_done s.rows.now m.at _ s.body.now m.rest.now m.invariant.1 c.loop-at-test.false
