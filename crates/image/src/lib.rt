@@ -21,12 +21,10 @@ fn load(image: &[u8], unit: &mut [u32])
     ensures { unit.new ≡ configuration_in image.now ++ drop configured unit.old }
 {
     let mut rest = &image[4..];
-    let mut slot: usize = 0;
-    while slot < EC_VALUE {
+    for slot in 0..EC_VALUE {
         let size = rest[3];
         unit[slot] = data_in(rest, size);
         rest = &rest[7 + size as usize..];
-        slot += 1;
     }
 }
 

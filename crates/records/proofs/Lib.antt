@@ -1,3 +1,4 @@
+pub mod LaidLaws
 pub mod RightLaws
 pub mod SizeLaws
 pub mod TakeLaws

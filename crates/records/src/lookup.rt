@@ -9,10 +9,7 @@ fn is_named(rest: &[u8], index: u16, sub: u8) -> bool
     requires { 7 ≤ length rest.now }
     ensures { result ≡ eqb (index_in rest.now) index && eqb (sub_in rest.now) sub }
 {
-    if two_at(rest, 0) == index {
-        return rest[2] == sub;
-    }
-    false
+    two_at(rest, 0) == index && rest[2] == sub
 }
 
 // Among so many records.
@@ -20,8 +17,7 @@ fn find_in(body: &[u8], count: u32, index: u16, sub: u8) -> &[u8]
     ensures { result.now ≡ looked count index sub body.now }
 {
     let mut rest = body;
-    let mut left = count;
-    while left > 0 {
+    for _ in 0..count {
         if rest.len() < 7 {
             return &body[0..0];
         }
@@ -33,7 +29,6 @@ fn find_in(body: &[u8], count: u32, index: u16, sub: u8) -> &[u8]
             return &rest[7..end];
         }
         rest = &rest[end..];
-        left -= 1;
     }
     &body[0..0]
 }

@@ -1,5 +1,5 @@
 // What a slot's value is: its type and range, and its place in a chain.
-#[derive(Clone, Copy, PartialEq, Eq)]
+#[derive(Clone, Copy)]
 pub enum Role {
     // UNSIGNED8
     Axis,

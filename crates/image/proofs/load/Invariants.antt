@@ -1,13 +1,9 @@
 -- `image::load` meets its contract: after each record one word more is the image's (`LoadLaws`).
 -- Assumes nothing.
 use mathlib.Core.Path.{◌≡◌}
-use Prim.Native.Nat.{◌-◌}
 use lib.ListN.{length}
 use Rattle.image.proofs.LoadLaws.{Half}
 use Rattle.image.proofs.load.Given as goal
 
 abbrev pub invariant-loop-slot : goal.invariant-loop-slot
 invariant-loop-slot l = Half l.image l.initial.unit l.unit l.rest l.slot × (length l.unit ≡ length l.initial.unit)
-
-abbrev pub decreases-loop-slot : goal.decreases-loop-slot
-decreases-loop-slot l = 611 - l.slot

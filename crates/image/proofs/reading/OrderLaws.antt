@@ -3,7 +3,7 @@
 use mathlib.Core.Path.{◌≡◌, refl, sym, ap, ◌∙◌}
 use mathlib.Core.Bool.{Bool, true, false, not, ◌&&◌}
 use mathlib.Core.List.{List, [], ◌∷◌, ◌++◌, flat_map}
-use Prim.Native.Nat.{ℕ, suc, ◌+◌, ◌-◌, ◌<◌, ◌≤◌}
+use Prim.Native.Nat.{ℕ, suc, ◌+◌, ◌<◌, ◌≤◌}
 use native.Mathlib.Omega.{arith}
 use lib.IntN.{ℤ, pos}
 use lib.ListN.{length, get_or, drop, drop_of_length-le}
@@ -62,15 +62,15 @@ module _ {A : Type 0} (test : A → Bool) where
 
 module _ (image : List ℕ) (lower upper : ℕ) (strict : Bool) (left : ℕ) {whole : Bool}
     (inv : whole ≡ every (rises image) (run_from lower upper strict left)) where
-  again : 0 < left → whole ≡ rising image lower upper strict && every (rises image) (run_from (lower + 9) (upper + 9) strict (left - 1))
+  again : (next : ℕ) → left ≡ suc next → whole ≡ rising image lower upper strict && every (rises image) (run_from (lower + 9) (upper + 9) strict next)
   unfolding every rises run_from
-  again h = let more : left ≡ suc (left - 1) = omega arith in inv ∙ ap (λ (n : ℕ). every (rises image) (run_from lower upper strict n)) more
+  again next h = inv ∙ ap (λ (n : ℕ). every (rises image) (run_from lower upper strict n)) h
 
-  pub run_broken : 0 < left → {b : Bool} → b ≡ rising image lower upper strict → b ≡ false → false ≡ whole
-  run_broken h e f = sym (again h ∙ rw (← e, f))
+  pub run_broken : (next : ℕ) → left ≡ suc next → {b : Bool} → b ≡ rising image lower upper strict → b ≡ false → false ≡ whole
+  run_broken next h e f = sym (again next h ∙ rw (← e, f))
 
-  pub run_on : 0 < left → {b : Bool} → b ≡ rising image lower upper strict → b ≡ true → whole ≡ every (rises image) (run_from (lower + 9) (upper + 9) strict (left - 1))
-  run_on h e f = again h ∙ rw (← e, f)
+  pub run_on : (next : ℕ) → left ≡ suc next → {b : Bool} → b ≡ rising image lower upper strict → b ≡ true → whole ≡ every (rises image) (run_from (lower + 9) (upper + 9) strict next)
+  run_on next h e f = again next h ∙ rw (← e, f)
 
   pub run_done : left ≤ 0 → true ≡ whole
   unfolding every run_from

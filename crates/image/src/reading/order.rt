@@ -71,14 +71,12 @@ fn run_rises(image: &[u8], run: Run) -> bool
 {
     let mut lower = run.lower as u32;
     let mut upper = run.upper as u32;
-    let mut left = run.pairs;
-    while left > 0 {
+    for _ in 0..run.pairs {
         if !pair_rises(image, lower, upper, run.strict) {
             return false;
         }
         lower += 9;
         upper += 9;
-        left -= 1;
     }
     true
 }
@@ -87,14 +85,10 @@ pub fn in_order(image: &[u8]) -> bool
     requires { length image.now ≡ 5207 }
     ensures { result ≡ in_order (configuration_in image.now) }
 {
-    let runs = RUNS;
-    let mut at: usize = 0;
-    while at < 17 {
-        let run = runs[at];
+    for run in RUNS {
         if !run_rises(image, run) {
             return false;
         }
-        at += 1;
     }
     true
 }

@@ -3,7 +3,7 @@
 use mathlib.Core.Path.{◌≡◌, refl, sym, ap, ◌∙◌}
 use mathlib.Core.Bool.{Bool, true, false, ◌&&◌, and-eq-true_iff}
 use mathlib.Core.List.{List, [], ◌∷◌}
-use Prim.Native.Nat.{ℕ, zero, suc, ◌+◌, ◌-◌, ◌<◌, suc-le-suc}
+use Prim.Native.Nat.{ℕ, zero, suc, ◌+◌, ◌<◌, suc-le-suc}
 use native.Mathlib.Nat.{le_of_suc-le-suc, not-suc-le-zero}
 use native.Mathlib.Omega.{arith}
 use lib.Dec.{eqb}
@@ -29,8 +29,7 @@ module _ (index sub n : ℕ) (e : Listed) (rest : List ℕ) (r : Right e rest) w
   unfolding is_it
   one_record =
       let room = r.room in
-      let less : suc n - 1 ≡ n = omega arith in
-      rw less at (there (suc n) index sub rest refl (omega arith) (omega arith) (sym r.sized) room {b = is_it} (rw (r.index, r.sub)))
+      there (suc n) n index sub rest refl refl (omega arith) (sym r.sized) room {b = is_it} (rw (r.index, r.sub))
 
   found : Named index sub e → looked (suc n) index sub rest ≡ take (size e) (drop 7 rest)
   unfolding is_it first

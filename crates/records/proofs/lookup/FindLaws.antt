@@ -15,11 +15,11 @@ use Rattle.records.specs.LookUp.{looked, look_up}
 use Rattle.records.specs.Walk.{index_in, sub_in, size_in}
 use Rattle.records.proofs.WalkLaws.{onward}
 
-module _ (left index sub : ℕ) (rest : List ℕ) {whole : List ℕ} (inv : whole ≡ looked left index sub rest) (more : 0 < left) where
+module _ (left next index sub : ℕ) (rest : List ℕ) {whole : List ℕ} (inv : whole ≡ looked left index sub rest) (more : left ≡ suc next) where
   again : whole ≡ first (ltb (length rest) 7) [] (first (ltb (length rest) (7 + size_in rest)) []
-      (first (eqb (index_in rest) index && eqb (sub_in rest) sub) (take (size_in rest) (drop 7 rest)) (looked (left - 1) index sub (drop (7 + size_in rest) rest))))
+      (first (eqb (index_in rest) index && eqb (sub_in rest) sub) (take (size_in rest) (drop 7 rest)) (looked next index sub (drop (7 + size_in rest) rest))))
   unfolding looked
-  again = let next : left ≡ suc (left - 1) = omega arith in inv ∙ ap (λ (n : ℕ). looked n index sub rest) next
+  again = inv ∙ ap (λ (n : ℕ). looked n index sub rest) more
 
   pub head_cut : length rest < 7 → [] ≡ whole
   unfolding first
@@ -32,7 +32,7 @@ module _ (left index sub : ℕ) (rest : List ℕ) {whole : List ℕ} (inv : whol
 
     module _ (k : 7 + size ≤ length rest) {b : Bool} (n : b ≡ eqb (index_in rest) index && eqb (sub_in rest) sub) where
       -- a record that is there has the name, or the search goes on behind it
-      pub there : whole ≡ first b (take size (drop 7 rest)) (looked (left - 1) index sub (drop (7 + size) rest))
+      pub there : whole ≡ first b (take size (drop 7 rest)) (looked next index sub (drop (7 + size) rest))
       unfolding first
       there = again ∙ rw (le-ltb (length rest) 7 h, ← s, le-ltb (length rest) (7 + size) k, ← n)
 
@@ -40,7 +40,7 @@ module _ (left index sub : ℕ) (rest : List ℕ) {whole : List ℕ} (inv : whol
       unfolding first
       here t = let same : 7 + size - 7 ≡ size = omega arith in rw same (sym (there ∙ rw t))
 
-      pub not_here : b ≡ false → whole ≡ looked (left - 1) index sub (onward (7 + size) rest)
+      pub not_here : b ≡ false → whole ≡ looked next index sub (onward (7 + size) rest)
       unfolding first
       not_here t =
           let room = length-drop (7 + size) rest in

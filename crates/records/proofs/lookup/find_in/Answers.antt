@@ -1,32 +1,30 @@
 -- `lookup::find_in` meets its contract: what is left of the records is searched in what is left of the bytes (`FindLaws`).
 -- Assumes nothing.
-use mathlib.Core.Path.{refl}
+use Prim.Native.Nat.{◌+◌, ◌-◌}
+use native.Mathlib.Omega.{arith}
 use Rattle.records.specs.Walk.{size_in}
 use Rattle.records.proofs.lookup.FindLaws.{head_cut, data_cut, here, not_here, nowhere}
 use Rattle.records.proofs.lookup.find_in.Goals as goal
 
-pub loop-left-init : goal.loop-left-init
-loop-left-init c = refl
-
 pub returns-then-rest-lt7 : goal.returns-then-rest-lt7
 returns-then-rest-lt7 c =
-    let s = c.args in let m = c.loop-left in head_cut m.left s.index s.sub m.rest.now m.invariant c.loop-left-test.true c.if-rest-lt7.true
+    let s = c.args in let m = c.loop in head_cut (s.count - m.counter) (s.count - (m.counter + 1)) s.index s.sub m.rest.now m.invariant (omega arith) c.if-rest-lt7.true
 
 pub returns-then-rest-end : goal.returns-then-rest-end
 unfolding size_in
 returns-then-rest-end c =
-    let s = c.args in let m = c.loop-left in data_cut m.left s.index s.sub m.rest.now m.invariant c.loop-left-test.true c.if-rest-lt7.false c.four_at.ensures c.if-rest-end.true
+    let s = c.args in let m = c.loop in data_cut (s.count - m.counter) (s.count - (m.counter + 1)) s.index s.sub m.rest.now m.invariant (omega arith) c.if-rest-lt7.false c.four_at.ensures c.if-rest-end.true
 
 pub returns-then-is_named : goal.returns-then-is_named
 unfolding size_in
 returns-then-is_named c =
-    let s = c.args in let m = c.loop-left in here m.left s.index s.sub m.rest.now m.invariant c.loop-left-test.true c.if-rest-lt7.false c.four_at.ensures c.if-rest-end.false c.is_named.ensures c.if-is_named.true
+    let s = c.args in let m = c.loop in here (s.count - m.counter) (s.count - (m.counter + 1)) s.index s.sub m.rest.now m.invariant (omega arith) c.if-rest-lt7.false c.four_at.ensures c.if-rest-end.false c.is_named.ensures c.if-is_named.true
 
-pub loop-left-preserved : goal.loop-left-preserved
+pub loop-preserved : goal.loop-preserved
 unfolding size_in
-loop-left-preserved c =
-    let s = c.args in let m = c.loop-left in not_here m.left s.index s.sub m.rest.now m.invariant c.loop-left-test.true c.if-rest-lt7.false c.four_at.ensures c.if-rest-end.false c.is_named.ensures c.if-is_named.false
+loop-preserved c =
+    let s = c.args in let m = c.loop in not_here (s.count - m.counter) (s.count - (m.counter + 1)) s.index s.sub m.rest.now m.invariant (omega arith) c.if-rest-lt7.false c.four_at.ensures c.if-rest-end.false c.is_named.ensures c.if-is_named.false
 
 pub returns : goal.returns
 returns c =
-    let s = c.args in let m = c.loop-left in nowhere m.left s.index s.sub m.rest.now m.invariant c.loop-left-test.false
+    let s = c.args in let m = c.loop in nowhere (s.count - m.counter) s.index s.sub m.rest.now m.invariant (omega arith)

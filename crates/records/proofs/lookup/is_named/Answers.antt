@@ -9,6 +9,6 @@ pub returns-then-two_at-index : goal.returns-then-two_at-index
 unfolding sub_in index_in
 returns-then-two_at-index c = rw (eq-eqb _ _ (sym c.two_at.ensures ∙ c.if-two_at-index.true))
 
-pub returns : goal.returns
+pub returns-else-two_at-index : goal.returns-else-two_at-index
 unfolding index_in
-returns c = rw (ne_eqb _ _ (λ q. c.if-two_at-index.false (c.two_at.ensures ∙ q)))
+returns-else-two_at-index c = rw (ne_eqb _ _ (λ q. c.if-two_at-index.false (c.two_at.ensures ∙ q)), ne_eqb _ _ c.if-two_at-index.false)

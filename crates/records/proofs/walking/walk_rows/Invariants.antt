@@ -8,9 +8,6 @@ use Rattle.records.specs.Rows.{row_of}
 use Rattle.records.specs.Walk.{walked, behind}
 use Rattle.records.proofs.walking.walk_rows.Given as goal
 
-abbrev pub invariant-loop-at : goal.invariant-loop-at
-invariant-loop-at l =
-    (length l.rest ≤ length l.body) × (walked (flat_map row_of l.rows) l.body ≡ behind (length l.body - length l.rest) (walked (flat_map row_of (drop l.at l.rows)) l.rest))
-
-abbrev pub decreases-loop-at : goal.decreases-loop-at
-decreases-loop-at l = length l.rows - l.at
+abbrev pub invariant-loop-row : goal.invariant-loop-row
+invariant-loop-row l =
+    (length l.rest ≤ length l.body) × (walked (flat_map row_of l.rows) l.body ≡ behind (length l.body - length l.rest) (walked (flat_map row_of (drop l.row-index l.rows)) l.rest))

@@ -1,6 +1,7 @@
 -- `reading::order::in_order` meets its contract: the runs are the links between the entries, by their places in an image, by computing (`PlaceLaws`),
 -- and what is left of them decides (`OrderLaws`).
 -- Assumes nothing.
+use native.Mathlib.Omega.{arith}
 use mathlib.Core.Path.{refl, sym}
 use mathlib.Core.Bool.{false}
 use mathlib.Core.List.{flat_map}
@@ -16,19 +17,19 @@ use Rattle.image.proofs.reading.order.in_order.Goals as goal
 abbrev none : Run
 none = record { lower = 0; upper = 0; pairs = 0; strict = false }
 
-pub loop-at-init : goal.loop-at-init
+pub loop-run-init : goal.loop-run-init
 unfolding run_of run_from flat_map runs run places place offset listed size width
-loop-at-init c = sym (ordered_by_places _ c.requires _ refl)
+loop-run-init c = sym (ordered_by_places _ c.requires _ refl)
 
 pub returns-then-not-run_rises : goal.returns-then-not-run_rises
 returns-then-not-run_rises c =
-    let m = c.loop-at in
-    runs_broken _ _ none m.at m.invariant c.loop-at-test.true c.run_rises.ensures c.if-not-run_rises.true
+    let m = c.loop-run in
+    runs_broken _ _ none m.run-index m.invariant (omega arith) c.run_rises.ensures c.if-not-run_rises.true
 
-pub loop-at-preserved : goal.loop-at-preserved
-loop-at-preserved c =
-    let m = c.loop-at in
-    runs_on _ _ none m.at m.invariant c.loop-at-test.true c.run_rises.ensures c.if-not-run_rises.false
+pub loop-run-preserved : goal.loop-run-preserved
+loop-run-preserved c =
+    let m = c.loop-run in
+    runs_on _ _ none m.run-index m.invariant (omega arith) c.run_rises.ensures c.if-not-run_rises.false
 
 pub returns : goal.returns
-returns c = let m = c.loop-at in runs_done _ _ none m.at m.invariant c.loop-at-test.false
+returns c = let m = c.loop-run in runs_done _ _ none m.run-index m.invariant (omega arith)

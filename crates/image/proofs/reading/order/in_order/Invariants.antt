@@ -3,15 +3,11 @@
 -- Assumes nothing.
 use mathlib.Core.Path.{◌≡◌}
 use mathlib.Core.List.{flat_map}
-use Prim.Native.Nat.{◌-◌}
 use lib.ListN.{drop}
 use Rattle.numbers.specs.Choice.{every}
 use Rattle.image.specs.Places.{rises, run_of}
 use Rattle.image.specs.Reading.{in_order, configuration_in}
 use Rattle.image.proofs.reading.order.in_order.Given as goal
 
-abbrev pub invariant-loop-at : goal.invariant-loop-at
-invariant-loop-at l = in_order (configuration_in l.image) ≡ every (rises l.image) (flat_map run_of (drop l.at l.runs))
-
-abbrev pub decreases-loop-at : goal.decreases-loop-at
-decreases-loop-at l = 17 - l.at
+abbrev pub invariant-loop-run : goal.invariant-loop-run
+invariant-loop-run l = in_order (configuration_in l.image) ≡ every (rises l.image) (flat_map run_of (drop l.run-index l.run-items))
