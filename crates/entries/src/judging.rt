@@ -10,7 +10,7 @@ use crate::types::Fault;
 use chains::{lower, upper};
 use numbers::signed::signed;
 use roles::telling::role_of;
-use roles::types::Link;
+use roles::types::{Link, Role};
 
 // A slot past the last reads 0.
 fn fetch(words: &[u32], slot: usize) -> u32
@@ -44,7 +44,7 @@ fn under(words: &[u32], link: Link, v: i16) -> bool
     }
 }
 
-fn judge_chain(words: &[u32], role: u8, slot: usize, word: u32) -> Result<(), Fault>
+fn judge_chain(words: &[u32], role: Role, slot: usize, word: u32) -> Result<(), Fault>
     requires { Told role slot }
     ensures { result ≡ in_order words.now slot word }
 {

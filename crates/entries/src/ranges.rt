@@ -3,11 +3,11 @@ ghost use Rattle.std.specs.Prelude.{◌≡◌, is_ok};
 ghost use Rattle.entries.specs.Judge.{number_of, finite, within, in_range};
 ghost use Rattle.roles.specs.Roles.{ranged};
 
-use super::limits::{high_of, kind_of, low_of};
+use super::limits::range_of;
 use super::types::Fault;
 use dictionary::types::Kind;
 use numbers::signed::signed;
-use roles::telling::WHOLE;
+use roles::types::Role;
 
 fn number(kind: Kind, word: u32) -> i32
     ensures { result ≡ number_of kind word }
@@ -45,22 +45,18 @@ fn judge_number(v: i32, low: i32, high: i32) -> Result<(), Fault>
     Ok(())
 }
 
-pub fn judge_range(role: u8, word: u32) -> Result<(), Fault>
+pub fn judge_range(role: Role, word: u32) -> Result<(), Fault>
     ensures { result ≡ in_range (ranged role) word }
 {
-    // the whole range of INTEGER16 or UNSIGNED32
-    if WHOLE <= role {
-        return Ok(());
-    }
-    let kind = kind_of(role);
-    if is_finite(kind, word) {
-        return judge_number(number(kind, word), low_of(role), high_of(role));
+    let range = range_of(role);
+    if is_finite(range.kind, word) {
+        return judge_number(number(range.kind, word), range.low, range.high);
     }
     Err(Fault::NotFinite)
 }
 
 // Whether a word may stand in the range of a role.
-pub fn fits(role: u8, word: u32) -> bool
+pub fn fits(role: Role, word: u32) -> bool
     ensures { result ≡ is_ok (in_range (ranged role) word) }
 {
     judge_range(role, word).is_ok()

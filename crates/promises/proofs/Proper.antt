@@ -15,7 +15,6 @@ use Rattle.dictionary.specs.Names.{configured}
 use Rattle.dictionary.specs.Unit.{unit_size}
 use Rattle.dictionary.specs.declared.types.Range.{Range}
 use Rattle.dictionary.proofs.naming.NameLaws as Names
-use Rattle.std.specs.Prelude.{is_ok}
 use Rattle.entries.specs.Judge.{in_range}
 use Rattle.entries.specs.Valid.{Valid}
 use Rattle.records.specs.Layout.{Listed, listed, size, entry, extent, record_of, records, image_of}
@@ -32,7 +31,7 @@ use Rattle.promises.specs.Restoring.{InPlace, Complete, Proper, Holds}
 use Rattle.promises.proofs.RecordFrames.{bytes_join}
 use Rattle.promises.proofs.Running.{sizes}
 use Rattle.promises.proofs.Slots.{own_range}
-use Rattle.std.specs.Prelude.{Result, Ok, Err, ⊤}
+use Rattle.std.specs.Prelude.{Result, Ok, Err, is_ok, ⊤}
 use Rattle.records.specs.declared.types.Refusal.{Refusal}
 
 -- ---- records in place

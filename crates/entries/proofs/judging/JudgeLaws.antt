@@ -18,6 +18,7 @@ use Rattle.numbers.specs.Signed.{signed16}
 use Rattle.roles.specs.Chains.{upper_of, lower_of}
 use Rattle.roles.specs.Roles.{Holding, ranged, said, holding, Told}
 use Rattle.entries.specs.Judge.{in_range, held, past_upper, past_lower, in_order, judged}
+use Rattle.roles.specs.declared.types.Role.{Role}
 use Rattle.roles.specs.declared.types.Link.{Link}
 use Rattle.roles.specs.declared.types.Link.TheVariants.{Loose, Strict}
 use Rattle.entries.specs.declared.types.Fault.{Fault}
@@ -68,7 +69,7 @@ module _ (words : List ℕ) (slot word : ℕ) (v : ℤ) (is : v ≡ signed16 wor
 
 -- ---- both: the range decides unless it is good
 
-pub by_own : (words : List ℕ) {role : ℕ} (slot word : ℕ) (own v : Result ⊤ Fault) → Told role slot → own ≡ in_range (ranged role) word → own ≡ v
+pub by_own : (words : List ℕ) {role : Role} (slot word : ℕ) (own v : Result ⊤ Fault) → Told role slot → own ≡ in_range (ranged role) word → own ≡ v
     → result_and v (in_order words slot word) ≡ judged words slot word
 unfolding judged said holding
 by_own words slot word own v t o e =
