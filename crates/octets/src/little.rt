@@ -20,10 +20,10 @@ pub fn four(a: u8, b: u8, c: u8, d: u8) -> u32
 pub fn two_at(bytes: &[u8], at: usize) -> u16
     ensures { result ≡ little (take 2 (drop at bytes.now)) }
 {
-    let Some(rest) = bytes.get(at..) else {
+    if at >= bytes.len() {
         return 0;
-    };
-    match rest {
+    }
+    match &bytes[at..] {
         [a, b, ..] => two(*a, *b),
         [a] => two(*a, 0),
         [] => 0,
@@ -34,10 +34,10 @@ pub fn two_at(bytes: &[u8], at: usize) -> u16
 pub fn four_at(bytes: &[u8], at: usize) -> u32
     ensures { result ≡ little (take 4 (drop at bytes.now)) }
 {
-    let Some(rest) = bytes.get(at..) else {
+    if at >= bytes.len() {
         return 0;
-    };
-    match rest {
+    }
+    match &bytes[at..] {
         [a, b, c, d, ..] => four(*a, *b, *c, *d),
         [a, b, c] => four(*a, *b, *c, 0),
         [a, b] => four(*a, *b, 0, 0),
