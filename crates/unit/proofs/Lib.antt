@@ -1,5 +1,6 @@
 pub mod Each
 pub mod Flags
 pub mod HeldLaws
+pub mod Past
 pub mod Slots
 pub mod WordLaws
