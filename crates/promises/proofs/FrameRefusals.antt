@@ -18,7 +18,6 @@ use Rattle.dictionary.specs.declared.types.Named.{Named}
 use Rattle.dictionary.specs.declared.types.Named.TheVariants.{Count, At}
 use Rattle.dictionary.specs.declared.types.Missing.{Missing}
 use Rattle.dictionary.specs.declared.types.Missing.TheVariants as missing
-use Rattle.roles.specs.Roles.{chosen}
 use Rattle.entries.specs.Judge.{within, in_range, in_order, judged}
 use Rattle.entries.specs.declared.types.Fault.TheVariants as fault
 use Rattle.roles.specs.Values.{range_of}
@@ -29,7 +28,7 @@ use Rattle.sdo.specs.declared.types.Done.TheVariants.{Written}
 use Rattle.dictionary.specs.Rows.{width}
 use Rattle.dictionary.specs.declared.types.Kind.{Kind}
 use Rattle.dictionary.specs.declared.types.Kind.TheVariants.{Unsigned8, Integer16, Unsigned16, Real32, Unsigned32}
-use Rattle.promises.specs.FrameRefusals.{first_match, bytes_written, own_bytes, unknown_index, unknown_sub, read_only, name_rows, frame_rows, good, code_sent, FramesMeetTheirs, CodesAsListed}
+use Rattle.promises.specs.FrameRefusals.{chosen, first_match, bytes_written, own_bytes, unknown_index, unknown_sub, read_only, name_rows, frame_rows, good, code_sent, FramesMeetTheirs, CodesAsListed}
 
 -- ---- rows 7 to 9: the judgement, row by row
 

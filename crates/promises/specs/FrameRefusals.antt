@@ -11,13 +11,17 @@ use Rattle.dictionary.specs.declared.types.Named.TheVariants.{Count, At}
 use Rattle.dictionary.specs.declared.types.Missing.{Missing}
 use Rattle.dictionary.specs.declared.types.Missing.TheVariants as missing
 use Rattle.roles.specs.Chains.{upper_of, lower_of}
-use Rattle.roles.specs.Roles.{chosen}
 use Rattle.roles.specs.Values.{range_of}
 use Rattle.entries.specs.Judge.{number_of, finite, past_upper, past_lower}
 use Rattle.sdo.specs.Answers.{unclear, reading, answer}
 use Rattle.sdo.specs.Frames.{Answer, index_in, sub_in, data_in, code}
 use Rattle.sdo.specs.declared.types.Abort.TheVariants as abort
 use Rattle.sdo.specs.declared.types.Done.TheVariants.{Value, Written}
+
+-- what a table of numbers has for a key, or else the last
+unfoldable pub chosen : {A : Type 0} → List (ℕ × A) → A → ℕ → A
+chosen [] other key = other
+chosen (p ∷ ps) other key = first (eqb key p.0) p.1 (chosen ps other key)
 
 -- the answer of the first row that applies, or else the last
 unfoldable pub first_match : {A : Type 0} → List (Bool × A) → A → A
