@@ -1,11 +1,12 @@
 -- What serving leaves: the word that an answer writes, and a reply's bytes.
 -- Assumes nothing.
-use mathlib.Core.Path.{◌≡◌, refl, ap}
+use mathlib.Core.Path.{◌≡◌, refl, ap, ◌∙◌}
 use mathlib.Core.List.{List, [], ◌∷◌, ◌++◌}
 use Prim.Native.Nat.{ℕ, zero, suc, ◌/◌, ◌%◌, ◌≤◌}
 use native.Mathlib.Nat.{not-suc-le-zero, le_of_suc-le-suc}
 use native.Mathlib.Omega.{arith}
-use lib.ListN.{length, set, drop}
+use lib.ListN.{length, get_or, set, drop}
+use lib.Seq.{drop-cons}
 use Rattle.std.specs.Prelude.{Some, None, Result, Ok, Err}
 use Rattle.std.specs.Int.{to_le_bytes, w32}
 use Rattle.octets.specs.Little.{bytes}
@@ -14,6 +15,23 @@ use Rattle.sdo.specs.Served.{filled}
 use Rattle.sdo.specs.declared.types.Abort.{Abort}
 use Rattle.sdo.specs.declared.types.Done.{Done}
 use Rattle.sdo.specs.declared.types.Done.TheVariants.{Value, Written}
+
+-- eight stores at the front of a list
+first_eight : (l : List ℕ) → 8 ≤ length l → l ≡ get_or l 0 0 ∷ get_or l 1 0 ∷ get_or l 2 0 ∷ get_or l 3 0 ∷ get_or l 4 0 ∷ get_or l 5 0 ∷ get_or l 6 0 ∷ get_or l 7 0 ∷ drop 8 l
+first_eight l h =
+    drop-cons l 0 0 (omega arith)
+    ∙ ap (λ (m : List ℕ). get_or l 0 0 ∷ m) (drop-cons l 1 0 (omega arith)
+    ∙ ap (λ (m : List ℕ). get_or l 1 0 ∷ m) (drop-cons l 2 0 (omega arith)
+    ∙ ap (λ (m : List ℕ). get_or l 2 0 ∷ m) (drop-cons l 3 0 (omega arith)
+    ∙ ap (λ (m : List ℕ). get_or l 3 0 ∷ m) (drop-cons l 4 0 (omega arith)
+    ∙ ap (λ (m : List ℕ). get_or l 4 0 ∷ m) (drop-cons l 5 0 (omega arith)
+    ∙ ap (λ (m : List ℕ). get_or l 5 0 ∷ m) (drop-cons l 6 0 (omega arith)
+    ∙ ap (λ (m : List ℕ). get_or l 6 0 ∷ m) (drop-cons l 7 0 (omega arith))))))))
+
+pub eight_stores : (l : List ℕ) → 8 ≤ length l → (a b c d e f g h : ℕ)
+    → set (set (set (set (set (set (set (set l 0 a) 1 b) 2 c) 3 d) 4 e) 5 f) 6 g) 7 h ≡ (a ∷ b ∷ c ∷ d ∷ e ∷ f ∷ g ∷ h ∷ []) ++ drop 8 l
+eight_stores l n a b c d e f g h =
+    ap (λ (m : List ℕ). set (set (set (set (set (set (set (set m 0 a) 1 b) 2 c) 3 d) 4 e) 5 f) 6 g) 7 h) (first_eight l n)
 
 -- a store past the end changes nothing
 pub set_past : (l : List ℕ) (i v : ℕ) → length l ≤ i → set l i v ≡ l

@@ -1,40 +1,48 @@
 // Serving a frame: the answer, the word that it writes, the reply.
-ghost use Rattle.std.specs.Prelude.{◌≡◌, Some, set};
-ghost use Rattle.sdo.specs.Frames.{read_command, cut, reply, reply_to};
-ghost use Rattle.sdo.specs.Served.{Served, after};
+ghost use Rattle.std.specs.Prelude.{◌≡◌, ◌++◌, ◌≤◌, Some, length, set, drop};
+ghost use Rattle.sdo.specs.Frames.{read_command, cut, reply};
+ghost use Rattle.sdo.specs.Served.{Served, after, filled};
 
 use crate::deciding::{heard, obey};
 use crate::types::{Abort, Done};
 use dictionary::slots::{TICKED, Unit};
 
-// The eight bytes of a reply.
-fn respond(frame: &[u8; 8], head: u8, value: u32) -> [u8; 8]
-    ensures { result ≡ reply frame.now head value }
+// The eight bytes of a reply, store by store: an array that is made whole and copied costs every frame ten instructions more.
+fn respond(frame: &[u8; 8], out: &mut [u8], head: u8, value: u32)
+    requires { 8 ≤ length out.old }
+    ensures { out.new ≡ reply frame.now head value ++ drop 8 out.old }
 {
-    let [first, second, third, fourth] = value.to_le_bytes();
-    [
-        head, frame[1], frame[2], frame[3], first, second, third, fourth,
-    ]
+    let bytes = value.to_le_bytes();
+    out[0] = head;
+    out[1] = frame[1];
+    out[2] = frame[2];
+    out[3] = frame[3];
+    out[4] = bytes[0];
+    out[5] = bytes[1];
+    out[6] = bytes[2];
+    out[7] = bytes[3];
 }
 
 // The reply that shows a value of so many bytes.
-fn show(frame: &[u8; 8], word: u32, size: u8) -> [u8; 8]
-    ensures { result ≡ reply frame.now (read_command size) (cut word size) }
+fn show(frame: &[u8; 8], out: &mut [u8], word: u32, size: u8)
+    requires { 8 ≤ length out.old }
+    ensures { out.new ≡ reply frame.now (read_command size) (cut word size) ++ drop 8 out.old }
 {
     match size {
-        4 => respond(frame, 0x43, word),
-        2 => respond(frame, 0x4B, word % 0x1_0000),
-        _ => respond(frame, 0x4F, word % 0x100),
+        4 => respond(frame, out, 0x43, word),
+        2 => respond(frame, out, 0x4B, word % 0x1_0000),
+        _ => respond(frame, out, 0x4F, word % 0x100),
     }
 }
 
-fn reply_to(frame: &[u8; 8], answer: Result<Done, Abort>) -> [u8; 8]
-    ensures { result ≡ reply_to frame.now (Some answer) }
+fn send(frame: &[u8; 8], out: &mut [u8], answer: Result<Done, Abort>)
+    requires { 8 ≤ length out.old }
+    ensures { out.new ≡ filled out.old frame.now (Some answer) }
 {
     match answer {
-        Ok(Done::Value(word, size)) => show(frame, word, size),
-        Ok(Done::Written(_, _)) => respond(frame, 0x60, 0),
-        Err(abort) => respond(frame, 0x80, abort.code()),
+        Ok(Done::Value(word, size)) => show(frame, out, word, size),
+        Ok(Done::Written(_, _)) => respond(frame, out, 0x60, 0),
+        Err(abort) => respond(frame, out, 0x80, abort.code()),
     }
 }
 
@@ -68,6 +76,6 @@ pub fn serve(unit: &mut Unit, frame: &[u8], reply: &mut [u8]) -> Option<Result<D
     let frame = heard(frame, reply.len())?;
     let answer = obey(unit, frame);
     keep(unit, answer);
-    reply[..8].copy_from_slice(&reply_to(frame, answer));
+    send(frame, reply, answer);
     Some(answer)
 }
