@@ -9,7 +9,8 @@ pub struct Name {
     pub sub: u8,
 }
 
-// The key is the index with the sub as a fifth digit; the first row that has it counts.
+// The key is the index with the sub as a fifth digit; the first row that has it counts. One text is plainer than an array of pairs, each with
+// its quotes and commas.
 const WORDS: &[u8] = b"2502? EC #, digits
 2520? EC #, scaling 1
 2522? EC #, scaling 2

@@ -4,7 +4,7 @@ use std::fmt;
 use unit::pairs::Pair;
 use unit::words::{byte_at, whole_at};
 
-// A source and a number, as they are called.
+// A source and a number, as they are called: by numbers, since the entries hold those and the answer shows them.
 #[derive(Clone, Copy)]
 pub struct Called(pub Pair);
 

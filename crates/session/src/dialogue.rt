@@ -24,7 +24,8 @@ fn share<'a>(piece: &'a [u8], room: &[u8]) -> &'a [u8]
     piece.get(..room.len() / 64).unwrap_or(piece)
 }
 
-// A piece of the input. What the room may not suffice for is not taken, and is told.
+// A piece of the input. What the room may not suffice for is not taken, and is told. The unit and the line stay two: lent together in one
+// struct, the room of its line would have no length that a proof knows.
 pub fn hear(unit: &mut Unit, line: &mut Line, piece: &[u8], room: &mut [u8]) -> Heard
     ensures { Hears (kept_of unit.old line.old) piece.now room.old (kept_of unit.new line.new) room.new result.printed result.taken }
 {

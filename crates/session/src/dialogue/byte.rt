@@ -20,7 +20,8 @@ pub fn respond(unit: &mut Unit, line: &Line, text: &mut [u8; 64]) -> usize
     answer(unit, line.text(), text)
 }
 
-// The line has come to its end: its answer goes behind those that are there.
+// The line has come to its end: its answer goes behind those that are there. The room and the place in it stay two, as the contract of `hear`
+// speaks of the room that its caller lends.
 fn finish(unit: &mut Unit, line: &Line, room: &mut [u8], printed: usize) -> usize
     requires { printed + 64 ≤ length room.old }
     ensures { Finished (ending (kept_of unit.old line.now)) room.old printed unit.new room.new result }
