@@ -5,3 +5,4 @@ pub mod naming;
 pub mod objects;
 pub mod slots;
 pub mod types;
+pub mod words;

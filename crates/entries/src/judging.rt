@@ -8,19 +8,10 @@ ghost use Rattle.roles.specs.Roles.{Told};
 use crate::ranges::judge_range;
 use crate::types::Fault;
 use chains::{lower, upper};
+use dictionary::words::word_at;
 use numbers::signed::signed;
 use roles::telling::role_of;
 use roles::types::{Link, Role};
-
-// A slot past the last reads 0.
-fn fetch(words: &[u32], slot: usize) -> u32
-    ensures { result ≡ get_or words.now slot 0 }
-{
-    if slot < words.len() {
-        return words[slot];
-    }
-    0
-}
 
 // Whether a value is past its upper neighbour's.
 fn over(words: &[u32], link: Link, v: i16) -> bool
@@ -28,8 +19,8 @@ fn over(words: &[u32], link: Link, v: i16) -> bool
 {
     match link {
         Link::Free => false,
-        Link::Loose(slot) => signed(fetch(words, slot)) < v,
-        Link::Strict(slot) => !(v < signed(fetch(words, slot))),
+        Link::Loose(slot) => signed(word_at(words, slot)) < v,
+        Link::Strict(slot) => !(v < signed(word_at(words, slot))),
     }
 }
 
@@ -39,8 +30,8 @@ fn under(words: &[u32], link: Link, v: i16) -> bool
 {
     match link {
         Link::Free => false,
-        Link::Loose(slot) => v < signed(fetch(words, slot)),
-        Link::Strict(slot) => !(signed(fetch(words, slot)) < v),
+        Link::Loose(slot) => v < signed(word_at(words, slot)),
+        Link::Strict(slot) => !(signed(word_at(words, slot)) < v),
     }
 }
 

@@ -6,11 +6,11 @@ pub mod turns;
 ghost use Rattle.std.specs.Prelude.{◌≡◌, ◌<◌};
 ghost use Rattle.table.specs.Table.{value, interval, curve, looked_up};
 
+use dictionary::words::word_at;
 use numbers::rounding::nearest;
 use numbers::signed::signed;
 use numbers::whole_line::{Point, line};
 use signals::signal::Signal;
-use unit::words::word_at;
 
 const POINTS: usize = 11;
 

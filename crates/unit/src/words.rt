@@ -3,14 +3,8 @@ ghost use Rattle.std.specs.Prelude.{◌≡◌, not, ◌%◌, eqb, get_or};
 ghost use Rattle.numbers.specs.Signed.{signed16};
 
 use dictionary::slots::Unit;
+use dictionary::words::word_at;
 use numbers::signed::signed;
-
-// Of any words: a part of the unit is read so too.
-pub fn word_at(unit: &[u32], slot: usize) -> u32
-    ensures { result ≡ get_or unit.now slot 0 }
-{
-    unit.get(slot).copied().unwrap_or(0)
-}
 
 pub fn whole_at(unit: &Unit, slot: usize) -> i16
     ensures { result ≡ signed16 (get_or unit.now slot 0) }

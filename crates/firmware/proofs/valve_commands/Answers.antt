@@ -9,12 +9,8 @@ use Rattle.firmware.proofs.valve_commands.Goals as goal
 pub returns : goal.returns
 unfolding has
 returns c =
-    let fourth = c in
-    let third = fourth in
-    let second = third in
-    let first = second in
     four_commands _ refl
-    (back first.whole_at-one.type_inv first.whole_at-one.ensures)
-    (back second.whole_at-two.type_inv second.whole_at-two.ensures)
-    (back third.whole_at-three.type_inv third.whole_at-three.ensures)
-    (back fourth.whole_at-four.type_inv fourth.whole_at-four.ensures)
+    (back c.whole_at-one.type_inv c.whole_at-one.ensures)
+    (back c.whole_at-two.type_inv c.whole_at-two.ensures)
+    (back c.whole_at-three.type_inv c.whole_at-three.ensures)
+    (back c.whole_at-four.type_inv c.whole_at-four.ensures)

@@ -6,6 +6,7 @@ ghost use Rattle.records.specs.Rows.{entry_at, row_of};
 ghost use Rattle.image.specs.Placing.{Room, Placed};
 
 use super::types::Front;
+use dictionary::words::word_at;
 use records::rows::Row;
 use roles::widths::width_of;
 
@@ -25,13 +26,6 @@ fn put_head(image: &mut [u8], at: usize, row: Row, sub: u8, size: u8)
     put_number(image, at, 2, row.index as u32);
     put_number(image, at + 2, 1, sub as u32);
     put_number(image, at + 3, 4, size as u32);
-}
-
-// A word that is not there is 0.
-fn word_at(words: &[u32], slot: usize) -> u32
-    ensures { result ≡ get_or words.now slot 0 }
-{
-    words.get(slot).copied().unwrap_or(0)
 }
 
 // The record of what a row holds at a sub.

@@ -10,17 +10,16 @@ use Rattle.input.proofs.does_clear.Goals as goal
 pub returns-then-s : goal.returns-then-s
 unfolding clears first
 returns-then-s c =
-    let w = c in
-    let a = w.args in
+    let a = c.args in
     let start : SFits w16 a.s.start = search rules in
     let end : SFits w16 a.s.end = search rules in
     let hysteresis : SFits w16 a.s.hysteresis = search rules in
     let sample : SFits w16 a.sample = search rules in
     rw (
       c.is_within.ensures,
-      w.if-s.true,
-      sum_is start hysteresis w.sum.ensures,
-      wide_is sample w.from.ensures,
+      c.if-s.true,
+      sum_is start hysteresis c.sum.ensures,
+      wide_is sample c.from.ensures,
       difference_is end hysteresis c.difference.ensures,
     )
 

@@ -10,17 +10,16 @@ use Rattle.input.proofs.is_out.Goals as goal
 pub returns-then-s : goal.returns-then-s
 unfolding out first
 returns-then-s c =
-    let w = c in
-    let a = w.args in
+    let a = c.args in
     let f : SFits w16 a.s.start = search rules in
     let g : SFits w16 a.s.end = search rules in
     let h : SFits w16 a.sample = search rules in
     rw (
       c.is_within.ensures,
-      w.if-s.true,
-      wide_is f w.from.ensures,
-      wide_is h w.from-then-s.ensures,
-      wide_is g w.from-then-s-2.ensures,
+      c.if-s.true,
+      wide_is f c.from.ensures,
+      wide_is h c.from-then-s.ensures,
+      wide_is g c.from-then-s-2.ensures,
     )
 
 pub returns : goal.returns

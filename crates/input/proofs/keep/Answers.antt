@@ -32,14 +32,11 @@ returns-then-from-run c =
 pub returns-then-memory : goal.returns-then-memory
 unfolding kept flagged_after first
 returns-then-memory c =
-    let e = c in
-    let a = e in
-    let cleared = read (clears a.args.s) a.ranges.sample c.does_clear.ensures refl in
+    let cleared = read (clears c.args.s) c.ranges.sample c.does_clear.ensures refl in
     rw (run_of (goal.at.returns-then-memory c).After-counted-run, early (goal.at.returns-then-memory c).Else-from-run, cleared, c.if-memory.true, opposite c.does_clear.result)
 
 pub returns : goal.returns
 unfolding kept flagged_after first
 returns c =
-    let e = c in
-    let a = e.args in
+    let a = c.args in
     rw (run_of (goal.at.returns c).After-counted-run, early (goal.at.returns c).Else-from-run, c.if-memory.false, either (clears a.s a.sample) false)

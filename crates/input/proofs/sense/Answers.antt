@@ -16,8 +16,7 @@ returns-then-after c =
 pub returns : goal.returns
 unfolding sensed signal_of reads_of first
 returns c =
-    let s = c in
-    let a = s.args in
-    let after = read (kept a.settings a.memory) s.ranges.sample c.keep-after.ensures refl in
-    let pv = read (process a.settings) s.ranges.sample c.scaled-pv.ensures refl in
+    let a = c.args in
+    let after = read (kept a.settings a.memory) c.ranges.sample c.keep-after.ensures refl in
+    let pv = read (process a.settings) c.ranges.sample c.scaled-pv.ensures refl in
     rw (after, kept_flag a.settings a.memory a.sample after, c.if-after.false, pv, back c.scaled-pv.type_inv refl)

@@ -11,5 +11,4 @@ returns-then-absent c = rw (← c.absent.ensures, ← c.absent-2.ensures, c.if-a
 pub returns : goal.returns
 unfolding verdict first
 returns c =
-    let tested = c in
-    rw (← tested.absent.ensures, ← tested.absent-2.ensures, tested.if-absent.false) c.judge.ensures
+    rw (← c.absent.ensures, ← c.absent-2.ensures, c.if-absent.false) c.judge.ensures

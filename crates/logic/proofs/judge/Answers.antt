@@ -14,19 +14,14 @@ returns-in_default c = no_left _ _ _ c.as_real.ensures (opened c.in_default.in_d
 pub returns-in_default-as_real : goal.returns-in_default-as_real
 unfolding compared
 returns-in_default-as_real c =
-    let told = c in
-    rw (← told.as_real.ensures, told.in-Real.is) (no_right _ _ _ c.as_real-2.ensures (opened c.in_default-as_real.in_default-as_real-own.keys2))
+    rw (← c.as_real.ensures, c.in-Real.is) (no_right _ _ _ c.as_real-2.ensures (opened c.in_default-as_real.in_default-as_real-own.keys2))
 
 pub returns-then-compare : goal.returns-then-compare
 unfolding compared compared_to first
 returns-then-compare c =
-    let right = c in
-    let left = right in
-    rw (← left.as_real.ensures, left.in-Real.is, ← right.as_real-2.ensures, right.in-Real-as_real.is, ← (c.compare.ensures ∙ of_real _ _ _), c.if-compare.true)
+    rw (← c.as_real.ensures, c.in-Real.is, ← c.as_real-2.ensures, c.in-Real-as_real.is, ← (c.compare.ensures ∙ of_real _ _ _), c.if-compare.true)
 
 pub returns : goal.returns
 unfolding compared compared_to first
 returns c =
-    let right = c in
-    let left = right in
-    rw (← left.as_real.ensures, left.in-Real.is, ← right.as_real-2.ensures, right.in-Real-as_real.is, ← (c.compare.ensures ∙ of_real _ _ _), c.if-compare.false)
+    rw (← c.as_real.ensures, c.in-Real.is, ← c.as_real-2.ensures, c.in-Real-as_real.is, ← (c.compare.ensures ∙ of_real _ _ _), c.if-compare.false)

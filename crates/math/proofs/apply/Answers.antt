@@ -17,12 +17,11 @@ returns-then-breaks c = simp (c.if-next.false, ← c.breaks.ensures, c.if-breaks
 pub returns : goal.returns
 unfolding operated_on running resumed first
 returns c =
-    let breaks = c in
     simp (
       c.limit-run.ensures,
       of_real,
       c.operate.ensures,
-      breaks.if-next.false,
-      ← breaks.breaks.ensures,
+      c.if-next.false,
+      ← c.breaks.ensures,
       c.if-breaks.false,
     )

@@ -23,9 +23,8 @@ taken c = tested (seen c.before.before) (wide_is c.before.before.before.ranges.t
 
 pub returns-then-there-from : goal.returns-then-there-from
 unfolding rise first
-returns-then-there-from c = let n = c in
-    rw (taken (goal.at.returns-then-there-from c).Then-there-from)
-    (back c.max.type_inv (c.max.ensures.value ∙ rw (to_z-of_z n.ranges.from, back n.narrow.type_inv (n.narrow.ensures ∙ seen (goal.at.returns-then-there-from c).After-raised-there)) (higher_is _ _)))
+returns-then-there-from c = rw (taken (goal.at.returns-then-there-from c).Then-there-from)
+    (back c.max.type_inv (c.max.ensures.value ∙ rw (to_z-of_z c.ranges.from, back c.narrow.type_inv (c.narrow.ensures ∙ seen (goal.at.returns-then-there-from c).After-raised-there)) (higher_is _ _)))
 
 pub returns : goal.returns
 unfolding rise first

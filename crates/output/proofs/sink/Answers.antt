@@ -23,9 +23,8 @@ taken c = tested (wide_is c.before.before.before.ranges.to c.before.from.ensures
 
 pub returns-then-from-there : goal.returns-then-from-there
 unfolding fall first
-returns-then-from-there c = let n = c in
-    rw (taken (goal.at.returns-then-from-there c).Then-from-there)
-    (back c.min.type_inv (c.min.ensures.value ∙ rw (to_z-of_z n.ranges.from, back n.narrow.type_inv (n.narrow.ensures ∙ seen (goal.at.returns-then-from-there c).After-lowered-there)) (lower_is _ _)))
+returns-then-from-there c = rw (taken (goal.at.returns-then-from-there c).Then-from-there)
+    (back c.min.type_inv (c.min.ensures.value ∙ rw (to_z-of_z c.ranges.from, back c.narrow.type_inv (c.narrow.ensures ∙ seen (goal.at.returns-then-from-there c).After-lowered-there)) (lower_is _ _)))
 
 pub returns : goal.returns
 unfolding fall first

@@ -11,10 +11,9 @@ use Rattle.table.proofs.curved.Goals as goal
 
 pub returns-then-v-at : goal.returns-then-v-at
 returns-then-v-at c =
-    let s = c in
-    let a = s.args in
+    let a = c.args in
     let v = to_z w16 (of_z w16 a.v) in
-    answer (curve a.points.response.now a.points.x.now a.points.y.now) s.ranges.v (back c.at-then-v-at.type_inv c.at-then-v-at.ensures)
+    answer (curve a.points.response.now a.points.x.now a.points.y.now) c.ranges.v (back c.at-then-v-at.type_inv c.at-then-v-at.ensures)
     (at_first a.points.response.now a.points.x.now a.points.y.now v (reached a.points.x.now v 0 c.at.type_inv c.at.ensures c.if-v-at.true))
 
 pub loop-k-init : goal.loop-k-init
@@ -29,11 +28,9 @@ overflow_sub-k c = c.loop-k.invariant.from
 pub returns-then-word_at-eq0 : goal.returns-then-word_at-eq0
 unfolding unused
 returns-then-word_at-eq0 c =
-    let l = c in
-    let s = l in
-    let a = s.args in
-    answer (curve a.points.response.now a.points.x.now a.points.y.now) s.ranges.v (back c.at-then-word_at-eq0.type_inv c.at-then-word_at-eq0.ensures)
-    (at_unused a.points.response.now a.points.x.now (to_z w16 (of_z w16 a.v)) l.loop-k.invariant a.points.y.now (omega arith)
+    let a = c.args in
+    answer (curve a.points.response.now a.points.x.now a.points.y.now) c.ranges.v (back c.at-then-word_at-eq0.type_inv c.at-then-word_at-eq0.ensures)
+    (at_unused a.points.response.now a.points.x.now (to_z w16 (of_z w16 a.v)) c.loop-k.invariant a.points.y.now (omega arith)
     (eq-eqb _ _ (told c.word_at.ensures c.if-word_at-eq0.true)))
 
 pub piece-requires : goal.piece-requires
@@ -42,24 +39,21 @@ piece-requires c = c.loop-k.invariant.from
 pub returns-then-v-at-2 : goal.returns-then-v-at-2
 unfolding unused
 returns-then-v-at-2 c =
-    let l = c in
-    let s = l in
-    let a = s.args in
+    let a = c.args in
     let v = to_z w16 (of_z w16 a.v) in
-    answer (curve a.points.response.now a.points.x.now a.points.y.now) s.ranges.v (back c.piece.type_inv c.piece.ensures)
-    (at_reached a.points.response.now a.points.x.now v l.loop-k.invariant a.points.y.now (omega arith)
+    answer (curve a.points.response.now a.points.x.now a.points.y.now) c.ranges.v (back c.piece.type_inv c.piece.ensures)
+    (at_reached a.points.response.now a.points.x.now v c.loop-k.invariant a.points.y.now (omega arith)
     (ne_eqb _ _ (λ e. c.if-word_at-eq0.false (c.word_at.ensures ∙ e)))
-    (reached a.points.x.now v l.loop-k.k c.at-in-loop-k.type_inv c.at-in-loop-k.ensures c.if-v-at-2.true))
+    (reached a.points.x.now v c.loop-k.k c.at-in-loop-k.type_inv c.at-in-loop-k.ensures c.if-v-at-2.true))
 
 pub loop-k-preserved : goal.loop-k-preserved
 unfolding unused
 loop-k-preserved c =
-    let l = c in
-    let a = l.args in
+    let a = c.args in
     let v = to_z w16 (of_z w16 a.v) in
-    on a.points.response.now a.points.x.now v l.loop-k.invariant (omega arith)
+    on a.points.response.now a.points.x.now v c.loop-k.invariant (omega arith)
     (ne_eqb _ _ (λ e. c.if-word_at-eq0.false (c.word_at.ensures ∙ e)))
-    (reached a.points.x.now v l.loop-k.k c.at-in-loop-k.type_inv c.at-in-loop-k.ensures c.if-v-at-2.false)
+    (reached a.points.x.now v c.loop-k.k c.at-in-loop-k.type_inv c.at-in-loop-k.ensures c.if-v-at-2.false)
 
 pub returns : goal.returns
 returns c =

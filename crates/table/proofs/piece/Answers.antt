@@ -10,16 +10,14 @@ use Rattle.table.proofs.piece.Goals as goal
 pub returns-then-word_at-eq1 : goal.returns-then-word_at-eq1
 unfolding interval first
 returns-then-word_at-eq1 c =
-    let l = c in
-    let w = l in
-    rw (eq-eqb _ _ (told w.word_at.ensures l.if-word_at-eq1.true))
+    rw (eq-eqb _ _ (told c.word_at.ensures c.if-word_at-eq1.true))
     (back c.line.type_inv
     (c.line.ensures ∙ rw (
-      back l.at.type_inv l.at.ensures,
-      back l.at-then-word_at-eq1.type_inv l.at-then-word_at-eq1.ensures,
-      back l.at-then-word_at-eq1-2.type_inv l.at-then-word_at-eq1-2.ensures,
-      back w.at-end.type_inv w.at-end.ensures,
-      to_z-of_z w.ranges.v,
+      back c.at.type_inv c.at.ensures,
+      back c.at-then-word_at-eq1.type_inv c.at-then-word_at-eq1.ensures,
+      back c.at-then-word_at-eq1-2.type_inv c.at-then-word_at-eq1-2.ensures,
+      back c.at-end.type_inv c.at-end.ensures,
+      to_z-of_z c.ranges.v,
     )))
 
 pub returns : goal.returns

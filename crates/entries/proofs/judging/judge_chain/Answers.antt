@@ -6,15 +6,12 @@ use Rattle.entries.proofs.judging.judge_chain.Goals as goal
 
 pub returns-then-over : goal.returns-then-over
 returns-then-over c =
-    let at = c in
-    broken_up _ _ _ _ at.signed-v.ensures (sfits_of at.signed-v.type_inv) _ c.upper.ensures _ c.over.ensures c.if-over.true
+    broken_up _ _ _ _ c.signed-v.ensures (sfits_of c.signed-v.type_inv) _ c.upper.ensures _ c.over.ensures c.if-over.true
 
 pub returns-then-under : goal.returns-then-under
 returns-then-under c =
-    let up = c in
-    broken_down _ _ _ _ up.signed-v.ensures (sfits_of up.signed-v.type_inv) _ up.upper.ensures _ up.over.ensures _ c.lower.ensures _ c.under.ensures c.if-over.false c.if-under.true
+    broken_down _ _ _ _ c.signed-v.ensures (sfits_of c.signed-v.type_inv) _ c.upper.ensures _ c.over.ensures _ c.lower.ensures _ c.under.ensures c.if-over.false c.if-under.true
 
 pub returns : goal.returns
 returns c =
-    let up = c in
-    unbroken _ _ _ _ up.signed-v.ensures (sfits_of up.signed-v.type_inv) _ up.upper.ensures _ up.over.ensures _ c.lower.ensures _ c.under.ensures c.if-over.false c.if-under.false
+    unbroken _ _ _ _ c.signed-v.ensures (sfits_of c.signed-v.type_inv) _ c.upper.ensures _ c.over.ensures _ c.lower.ensures _ c.under.ensures c.if-over.false c.if-under.false

@@ -11,10 +11,8 @@ returns-in-Free c = rw c.in-Free.is
 
 pub returns-in-Loose : goal.returns-in-Loose
 returns-in-Loose c =
-    let link = c in
-    down_loose _ _ _ _ _ _ c.fetch.ensures c.signed.ensures (sfits_of c.signed.type_inv) link.ranges.v link.in-Loose.is
+    down_loose _ _ _ _ _ _ c.word_at.ensures c.signed.ensures (sfits_of c.signed.type_inv) c.ranges.v c.in-Loose.is
 
 pub returns-in-Strict : goal.returns-in-Strict
 returns-in-Strict c =
-    let link = c in
-    down_strict _ _ _ _ _ _ c.fetch-in-Strict.ensures c.signed-in-Strict.ensures (sfits_of c.signed-in-Strict.type_inv) link.ranges.v link.in-Strict.is
+    down_strict _ _ _ _ _ _ c.word_at-in-Strict.ensures c.signed-in-Strict.ensures (sfits_of c.signed-in-Strict.type_inv) c.ranges.v c.in-Strict.is

@@ -28,11 +28,10 @@ pub loop-i-preserved : goal.loop-i-preserved
 unfolding unit_size flags_at runs_at signals_at words
 loop-i-preserved c =
     let at = c.loop-i in
-    let start = c in
-    let u = start.args.words.now in
+    let u = c.args.words.now in
     let i = at.i in
-    let e = 0xFF00 + 0x10000 * (start.args.k + 1) in
-    let h : 653 + i < length u = omega (arith, start.requires) in (
+    let e = 0xFF00 + 0x10000 * (c.args.k + 1) in
+    let h : 653 + i < length u = omega (arith, c.requires) in (
       omega arith,
       length-set at.words (653 + i) at.next ∙ at.invariant.1,
       rw (at.invariant.2, at.invariant.3) (pushed_on u 653 e i h),

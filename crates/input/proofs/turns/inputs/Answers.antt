@@ -33,19 +33,17 @@ loop-row-init c = (omega arith, refl)
 
 pub loop-row-preserved : goal.loop-row-preserved
 unfolding input_turn publish lay has
-loop-row-preserved c = let s = c in
-    let at = s in
-    let k = at.loop-row.row in
-    let samples = at.args.samples in
+loop-row-preserved c = let k = c.loop-row.row in
+    let samples = c.args.samples in
     let e : k + 1 - 1 ≡ k = omega arith in
     let h : k < 4 = omega arith in
     let given : SFits w16 (get_or samples k (pos 0)) = search rules in
-    let fits : SFits w16 s.sense-after.result.reads = search rules in (
+    let fits : SFits w16 c.sense-after.result.reads = search rules in (
       omega arith,
       c.remember.ensures
           ∙ rw (
             more (λ n. input_turn (get_or samples (n - 1) (pos 0)) n) _ k,
-            ← at.loop-row.invariant.1,
+            ← c.loop-row.invariant.1,
             e,
             zero-add k,
             array 0x7100 refl k h,
@@ -57,7 +55,7 @@ loop-row-preserved c = let s = c in
             to_z-of_z given,
             to_z-of_z fits,
             after (goal.at.loop-row-preserved c).After-sense-after,
-            s.memory-before.ensures,
+            c.memory-before.ensures,
           ),
     )
 

@@ -13,22 +13,19 @@ put_count-requires c = let room = c.requires.1 in omega arith
 
 pub loop-place-init : goal.loop-place-init
 loop-place-init c =
-    let s = c in
-    counted s.args.wanted.now s.args.places.now s.args.list.now c.put_count.ensures s.requires.1
+    counted c.args.wanted.now c.args.places.now c.args.list.now c.put_count.ensures c.requires.1
 
 pub copy_record-at-requires : goal.copy_record-at-requires
 copy_record-at-requires c =
-    let s = c in
     let p = c.put_count in
     let m = c.loop-place in
-    (s.requires.0.each m.place-index (omega arith), room_here s.args.wanted.now s.args.places.now p.new.list m.list m.at m.place-index m.invariant (omega arith))
+    (c.requires.0.each m.place-index (omega arith), room_here c.args.wanted.now c.args.places.now p.new.list m.list m.at m.place-index m.invariant (omega arith))
 
 pub loop-place-preserved : goal.loop-place-preserved
 loop-place-preserved c =
-    let s = c in
     let p = c.put_count in
     let m = c.loop-place in
-    onward s.args.wanted.now s.args.places.now p.new.list m.list m.at m.place-index m.invariant (omega arith) c.copy_record-at.ensures.0 c.copy_record-at.ensures.1
+    onward c.args.wanted.now c.args.places.now p.new.list m.list m.at m.place-index m.invariant (omega arith) c.copy_record-at.ensures.0 c.copy_record-at.ensures.1
 
 pub shape_of-list : goal.shape_of-list
 shape_of-list c =
@@ -38,8 +35,7 @@ shape_of-list c =
 
 pub returns : goal.returns
 returns c =
-    let s = c in
     let p = c.put_count in
     let m = c.loop-place in
-    all_copied s.args.wanted.now s.args.places.now p.new.list m.list m.at m.place-index m.invariant (omega arith)
-    ∙ behind_count s.args.wanted.now s.args.places.now s.args.list.now p.ensures
+    all_copied c.args.wanted.now c.args.places.now p.new.list m.list m.at m.place-index m.invariant (omega arith)
+    ∙ behind_count c.args.wanted.now c.args.places.now c.args.list.now p.ensures

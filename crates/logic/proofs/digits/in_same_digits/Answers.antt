@@ -12,7 +12,6 @@ use Rattle.logic.proofs.digits.in_same_digits.Goals as goal
 pub returns : goal.returns
 unfolding in_same_digits
 returns c =
-    let a = c in
-    let left = to_z-of_z {w = w32} (sfits_of c.scaled.type_inv) ∙ c.scaled.ensures ∙ ap (λ (z : ℤ). z *ℤ pos (tens a.args.e)) (to_z-of_z a.ranges.v) in
-    let right = to_z-of_z {w = w32} (sfits_of c.scaled-2.type_inv) ∙ c.scaled-2.ensures ∙ ap (λ (z : ℤ). z *ℤ pos (tens a.args.d)) (to_z-of_z a.ranges.w) in
+    let left = to_z-of_z {w = w32} (sfits_of c.scaled.type_inv) ∙ c.scaled.ensures ∙ ap (λ (z : ℤ). z *ℤ pos (tens c.args.e)) (to_z-of_z c.ranges.v) in
+    let right = to_z-of_z {w = w32} (sfits_of c.scaled-2.type_inv) ∙ c.scaled-2.ensures ∙ ap (λ (z : ℤ). z *ℤ pos (tens c.args.d)) (to_z-of_z c.ranges.w) in
     c.compare.ensures ∙ of_whole _ _ _ ∙ rw (left, right)

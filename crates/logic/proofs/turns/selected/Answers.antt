@@ -26,22 +26,19 @@ loop-t-init c = (omega arith, refl)
 pub returns-then-holds_at : goal.returns-then-holds_at
 unfolding chosen first byte have
 returns-then-holds_at c =
-    let at = c in
-    let a = at.args in
-    let here = first_here _ _ at.loop-t.t (omega arith) (sym c.holds_at.ensures ∙ c.if-holds_at.true) in
-    rw (on (goal.at.returns-then-holds_at c).Then-switched, ← at.loop-t.invariant.1, here, logic_array 0x4001 refl a.logic.k a.logic.is_one at.loop-t.t (omega arith)) c.byte_at.ensures
+    let a = c.args in
+    let here = first_here _ _ c.loop-t.t (omega arith) (sym c.holds_at.ensures ∙ c.if-holds_at.true) in
+    rw (on (goal.at.returns-then-holds_at c).Then-switched, ← c.loop-t.invariant.1, here, logic_array 0x4001 refl a.logic.k a.logic.is_one c.loop-t.t (omega arith)) c.byte_at.ensures
 
 pub loop-t-preserved : goal.loop-t-preserved
 loop-t-preserved c =
-    let at = c in
-    (omega arith, sym (first_later _ _ at.loop-t.t (omega arith) (sym c.holds_at.ensures ∙ c.if-holds_at.false)) ∙ at.loop-t.invariant.1)
+    (omega arith, sym (first_later _ _ c.loop-t.t (omega arith) (sym c.holds_at.ensures ∙ c.if-holds_at.false)) ∙ c.loop-t.invariant.1)
 
 pub returns-after-loop-t : goal.returns-after-loop-t
 unfolding chosen first_that_holds first
 returns-after-loop-t c =
-    let at = c in
-    let all : at.loop-t.t ≡ 3 = omega arith in
-    rw (on (goal.at.returns-after-loop-t c).Then-switched, ← at.loop-t.invariant.1, all)
+    let all : c.loop-t.t ≡ 3 = omega arith in
+    rw (on (goal.at.returns-after-loop-t c).Then-switched, ← c.loop-t.invariant.1, all)
 
 pub returns-else-switched : goal.returns-else-switched
 unfolding chosen first

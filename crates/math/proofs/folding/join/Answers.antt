@@ -10,13 +10,11 @@ use Rattle.math.proofs.folding.join.Goals as goal
 pub returns-in_default : goal.returns-in_default
 unfolding running toward
 returns-in_default c =
-    let read = c in
-    let a = read.args in
-    rw (c.pass.ensures, passed a.operator a.input (running a.fold) read.as_real.ensures (opened c.in_default.in_default-own.keys2))
+    let a = c.args in
+    rw (c.pass.ensures, passed a.operator a.input (running a.fold) c.as_real.ensures (opened c.in_default.in_default-own.keys2))
     (search rules)
 
 pub returns : goal.returns
 unfolding running toward joined joins
 returns c =
-    let told = c in
-    rw (c.apply.ensures, c.scale.ensures, ← told.as_real.ensures, told.in-Real.is) (search rules)
+    rw (c.apply.ensures, c.scale.ensures, ← c.as_real.ensures, c.in-Real.is) (search rules)

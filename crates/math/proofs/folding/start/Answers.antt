@@ -14,5 +14,4 @@ returns-in_default c = rw (unstarted c.args.input c.as_real.ensures (opened c.in
 pub returns : goal.returns
 unfolding begun resumed started starts
 returns c =
-    let read = c in
-    simp (← read.as_real.ensures, c.in-Real.is, c.scale-run.ensures) (search rules)
+    simp (← c.as_real.ensures, c.in-Real.is, c.scale-run.ensures) (search rules)

@@ -11,15 +11,14 @@ use Rattle.math.proofs.turns.operand.Goals as goal
 pub returns : goal.returns
 unfolding operand whole byte have
 returns c =
-    let s = c in
-    let k = s.args.math.k in
-    let i = s.args.i in
+    let k = c.args.math.k in
+    let i = c.args.i in
     rw (
-      math_array 0x4000 refl k s.args.math.is_one i (omega arith),
-      math_array 0x4001 refl k s.args.math.is_one i (omega arith),
-      math_array 0x4020 refl k s.args.math.is_one i (omega arith),
-      math_array 0x4022 refl k s.args.math.is_one i (omega arith),
-      math_array 0x4040 refl k s.args.math.is_one i (omega arith),
+      math_array 0x4000 refl k c.args.math.is_one i (omega arith),
+      math_array 0x4001 refl k c.args.math.is_one i (omega arith),
+      math_array 0x4020 refl k c.args.math.is_one i (omega arith),
+      math_array 0x4022 refl k c.args.math.is_one i (omega arith),
+      math_array 0x4040 refl k c.args.math.is_one i (omega arith),
       c.as_real.ensures,
       c.look_up.ensures,
       c.pair_at.ensures,

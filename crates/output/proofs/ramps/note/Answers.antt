@@ -31,21 +31,16 @@ high_fits c = search rules
 
 pub returns : goal.returns
 unfolding noted first ramp_start_at ramp_rising_at ramp_fv1_at ramp_fv2_at ramp_used_at
-returns c = let p3 = c in
-    let p2 = p3 in
-    let g = p2 in
-    let p = g in
-    let n = p in
-    let a = n.args in
+returns c = let a = c.args in
     let e : a.k + 1 - 1 ≡ a.k = omega arith in
     rw (
-      eq-eqb _ 1 n.if-m-ne1.false,
+      eq-eqb _ 1 c.if-m-ne1.false,
       e,
-      p.pattern.ensures,
-      g.from.ensures,
+      c.pattern.ensures,
+      c.from.ensures,
       flag_is c.args.m.rising,
-      p2.pattern-2.ensures,
-      p3.pattern-3.ensures,
+      c.pattern-2.ensures,
+      c.pattern-3.ensures,
       c.from-2.ensures,
       to_z-of_z (start_fits (goal.at.returns c).After-struct_told-1),
       to_z-of_z (low_fits (goal.at.returns c).After-struct_told-2-1),

@@ -53,7 +53,6 @@ unfolding ramped motion first
 returns-then-from-to c = let at = goal.at.returns-then-from-to c in
     let from_is = from at.After-limit-from (low_fits at.After-struct_told-1) (high_fits at.After-struct_told-2-1) in
     let to_is = to at.After-aim-to in
-    let e = c in
     rw (found_equal c.limit-from.result c.aim-to.result c.limit-from.type_inv c.aim-to.type_inv from_is to_is c.if-from-to.true) (c.rest.ensures ∙ ap rests to_is)
 
 pub returns-then-used-eq0 : goal.returns-then-used-eq0
@@ -61,9 +60,7 @@ unfolding ramped motion below first
 returns-then-used-eq0 c = let at = goal.at.returns-then-used-eq0 c in
     let from_is = from at.After-limit-from (low_fits at.After-struct_told-1) (high_fits at.After-struct_told-2-1) in
     let to_is = to at.After-aim-to in
-    let u = c in
-    let e = u in
-    rw (found_other c.limit-from.result c.aim-to.result u.limit-from.type_inv u.aim-to.type_inv from_is to_is u.if-from-to.false, ← from_is, ← to_is, ← u.in_use-used.ensures, c.if-used-eq0.true) c.rest-then-used-eq0.ensures
+    rw (found_other c.limit-from.result c.aim-to.result c.limit-from.type_inv c.aim-to.type_inv from_is to_is c.if-from-to.false, ← from_is, ← to_is, ← c.in_use-used.ensures, c.if-used-eq0.true) c.rest-then-used-eq0.ensures
 
 pub begin-requires : goal.begin-requires
 begin-requires c = let a = c.args in
@@ -74,9 +71,5 @@ unfolding ramped moved motion below first
 returns c = let at = goal.at.returns c in
     let from_is = from at.After-limit-from (low_fits at.After-struct_told-1) (high_fits at.After-struct_told-2-1) in
     let to_is = to at.After-aim-to in
-    let n = c in
-    let u = n in
-    let e = u in
-    let s = e in
-    rw (found_other c.limit-from.result c.aim-to.result u.limit-from.type_inv u.aim-to.type_inv from_is to_is u.if-from-to.false, ← from_is, ← to_is, ← u.in_use-used.ensures, ne_eqb _ 0 n.if-used-eq0.false, ← n.count_on-ticks.ensures.0)
-    (c.advance.ensures ∙ rw (s.settings_of-s.ensures, back c.begin.type_inv c.begin.ensures))
+    rw (found_other c.limit-from.result c.aim-to.result c.limit-from.type_inv c.aim-to.type_inv from_is to_is c.if-from-to.false, ← from_is, ← to_is, ← c.in_use-used.ensures, ne_eqb _ 0 c.if-used-eq0.false, ← c.count_on-ticks.ensures.0)
+    (c.advance.ensures ∙ rw (c.settings_of-s.ensures, back c.begin.type_inv c.begin.ensures))

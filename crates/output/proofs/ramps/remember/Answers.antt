@@ -15,10 +15,9 @@ use Rattle.output.proofs.ramps.remember.Goals as goal
 
 pub returns : goal.returns
 unfolding remember publish has ramp_count_at
-returns c = let n = c in
-    let a = n.args in
+returns c = let a = c.args in
     let k = a.k in
     let h : k < 4 = omega arith in
     let e : k + 1 - 1 ≡ k = omega arith in
     let command : SFits w16 a.m.command = search rules in
-    rw (e, array 0x7330 refl k h, c.pattern.ensures, to_z-of_z command, n.note.ensures)
+    rw (e, array 0x7330 refl k h, c.pattern.ensures, to_z-of_z command, c.note.ensures)

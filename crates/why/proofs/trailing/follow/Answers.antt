@@ -9,11 +9,9 @@ use Rattle.why.proofs.trailing.follow.Goals as goal
 
 pub returns-in-Ends : goal.returns-in-Ends
 returns-in-Ends c =
-    let m = c in
-    let s = m in
-    let unit = s.args.unit.now in
-    let l = m.loop-i in
-    followed unit s.args.first _ s.args.trail.now _ _ l.i _ s.requires.0 m.put.ensures
+    let unit = c.args.unit.now in
+    let l = c.loop-i in
+    followed unit c.args.first _ c.args.trail.now _ _ l.i _ c.requires.0 c.put.ensures
     (ends unit _ l.row l.i _ l.trail l.invariant c.loop-i-test.true _ (sym c.next-next.ensures ∙ c.in-Ends.is)) refl
 
 pub returns-in_default : goal.returns-in_default
@@ -42,9 +40,7 @@ loop-i-preserved c =
 
 pub returns : goal.returns
 returns c =
-    let m = c in
-    let s = m in
-    let unit = s.args.unit.now in
-    let l = m.loop-i in
-    followed unit s.args.first _ s.args.trail.now _ _ 16 _ s.requires.0 m.put.ensures
+    let unit = c.args.unit.now in
+    let l = c.loop-i in
+    followed unit c.args.first _ c.args.trail.now _ _ 16 _ c.requires.0 c.put.ensures
     (out unit _ l.row l.i _ l.trail l.invariant c.loop-i-test.false) refl

@@ -25,15 +25,12 @@ unfolding lowest
 loop-i-init c = (omega arith, refl)
 
 pub returns-then-failed : goal.returns-then-failed
-returns-then-failed c = let m = c in
-    let a = m.args in
-    ap Reads c.math_pair-pair.ensures ∙ hit a.math.unit.now a.math.k m.loop-i.i m.loop-i.invariant.1 (omega arith) (is (goal.at.returns-then-failed c).After-failed ∙ c.if-failed.true)
+returns-then-failed c = let a = c.args in
+    ap Reads c.math_pair-pair.ensures ∙ hit a.math.unit.now a.math.k c.loop-i.i c.loop-i.invariant.1 (omega arith) (is (goal.at.returns-then-failed c).After-failed ∙ c.if-failed.true)
 
 pub loop-i-preserved : goal.loop-i-preserved
-loop-i-preserved c = let m = c in
-    let a = m.args in
-    (omega arith, miss a.math.unit.now a.math.k m.loop-i.i m.loop-i.invariant.1 (omega arith) (is (goal.at.loop-i-preserved c).After-failed ∙ c.if-failed.false))
+loop-i-preserved c = let a = c.args in
+    (omega arith, miss a.math.unit.now a.math.k c.loop-i.i c.loop-i.invariant.1 (omega arith) (is (goal.at.loop-i-preserved c).After-failed ∙ c.if-failed.false))
 
 pub returns : goal.returns
-returns c = let m = c in
-    none m.args.math.unit.now m.args.math.k m.loop-i.i m.loop-i.invariant.1 m.loop-i.invariant.0 (omega arith)
+returns c = none c.args.math.unit.now c.args.math.k c.loop-i.i c.loop-i.invariant.1 c.loop-i.invariant.0 (omega arith)

@@ -15,13 +15,11 @@ overflow_cast-image c = omega (arith, c.shared_slice_known-then-size-eq1-1.given
 
 pub returns-then-size-eq1 : goal.returns-then-size-eq1
 returns-then-size-eq1 c =
-    let s = c in
-    to_z-of_z {w = w16} (sfits_of c.signed.type_inv) ∙ c.signed.ensures ∙ one_byte _ _ s.requires.0 (sym c.if-size-eq1.true ∙ s.requires.1)
+    to_z-of_z {w = w16} (sfits_of c.signed.type_inv) ∙ c.signed.ensures ∙ one_byte _ _ c.requires.0 (sym c.if-size-eq1.true ∙ c.requires.1)
 
 pub returns : goal.returns
 returns c =
-    let s = c in
-    let some = s.requires.0.some in
+    let some = c.requires.0.some in
     let other = c.if-size-eq1.false in
     to_z-of_z {w = w16} (sfits_of c.signed-2.type_inv) ∙ c.signed-2.ensures ∙ ap signed16 c.two.ensures
-    ∙ two_bytes _ _ s.requires.0 (s.args.size - 2) (omega (arith, s.requires.1))
+    ∙ two_bytes _ _ c.requires.0 (c.args.size - 2) (omega (arith, c.requires.1))

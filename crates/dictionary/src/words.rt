@@ -1,0 +1,9 @@
+// A word of a unit, or of a part of one.
+ghost use Rattle.std.specs.Prelude.{◌≡◌, get_or};
+
+// A slot past the last reads 0.
+pub fn word_at(words: &[u32], slot: usize) -> u32
+    ensures { result ≡ get_or words.now slot 0 }
+{
+    words.get(slot).copied().unwrap_or(0)
+}
