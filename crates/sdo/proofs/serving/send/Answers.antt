@@ -1,12 +1,10 @@
 -- `serving::send` meets its contract, case by case.
 -- Assumes nothing.
-use mathlib.Core.Path.{◌≡◌, ap, ◌∙◌}
-use Rattle.std.specs.Prelude.{Ok}
+use mathlib.Core.Path.{◌≡◌}
 use Rattle.sdo.specs.Frames.{reply_to, reply, name_in}
 use Rattle.sdo.specs.Served.{filled}
 use Rattle.octets.specs.Little.{bytes}
 use Rattle.sdo.specs.declared.types.Done.TheVariants.{Value, Written}
-use Rattle.sdo.proofs.ReplyLaws.{sent}
 use Rattle.sdo.proofs.serving.send.Goals as goal
 
 pub returns-in-Ok-Value : goal.returns-in-Ok-Value
