@@ -10,7 +10,11 @@ use lib.Dec.{eqb, ltb}
 use borrow.Author.Tests.{ltb-true, eqb-true}
 use Rattle.dictionary.specs.OneEach.{NamesApart, SlotNamed, SlotsApart}
 use Rattle.dictionary.specs.Names.{Stretch, stretches, find, index_at, sub_at, words}
-use Rattle.dictionary.specs.declared.types.Found.TheVariants.{NoIndex, At}
+use Rattle.std.specs.Prelude.{Result, Ok, Err}
+use Rattle.dictionary.specs.declared.types.Named.{Named}
+use Rattle.dictionary.specs.declared.types.Named.TheVariants.{At}
+use Rattle.dictionary.specs.declared.types.Missing.{Missing}
+use Rattle.dictionary.specs.declared.types.Missing.TheVariants.{Index}
 use Rattle.dictionary.proofs.naming.NameLaws.{every, picked}
 use Rattle.dictionary.proofs.Tabulate.{tabulate, agree}
 
@@ -45,7 +49,7 @@ pub record Stands (index sub slot : ℕ) : Type 0 where
   pub sub_is : sub_at slot ≡ sub
 
 -- a name that is found at a slot stands there
-pub found_stands : (index sub slot : ℕ) → find index sub ≡ At slot → Stands index sub slot
+pub found_stands : (index sub slot : ℕ) → find index sub ≡ Ok (At slot) → Stands index sub slot
 unfolding names_there
 found_stands index sub slot e =
     let it = picked names_there index sub slot all_there e in
@@ -71,16 +75,16 @@ names_apart i s j t slot e f =
     let b = found_stands j t slot f in
     (sym a.index_is ∙ b.index_is, sym a.sub_is ∙ b.sub_is)
 
-each_found : tabulate words 0 (λ slot. find (index_at slot) (sub_at slot)) ≡ tabulate words 0 At
+each_found : tabulate words 0 (λ slot. find (index_at slot) (sub_at slot)) ≡ tabulate words 0 (λ slot. Ok (At slot))
 unfolding tabulate find index_at sub_at words
 each_found = refl
 
 pub slot_named : SlotNamed
-slot_named = agree words (λ slot. find (index_at slot) (sub_at slot)) At NoIndex each_found
+slot_named = agree words (λ slot. find (index_at slot) (sub_at slot)) (λ slot. Ok (At slot)) (Err Index) each_found
 
 pub slots_apart : SlotsApart
 slots_apart k slot h l i s =
     let one = slot_named k h in
     let other = slot_named slot l in
-    let same : At k ≡ At slot = sym one ∙ rw (i, s) other in
+    let same : ◌≡◌ {A = Result Named Missing} (Ok (At k)) (Ok (At slot)) = sym one ∙ rw (i, s) other in
     cc

@@ -1,11 +1,13 @@
 -- The names in order, their slots, and what an index with a sub-index names.
 -- Assumes nothing.
-use Rattle.std.specs.Prelude.{ℕ, zero, suc, ◌+◌, ◌-◌, max, Bool, ◌&&◌, eqb, ltb, leb, length, get_or}
+use Rattle.std.specs.Prelude.{ℕ, zero, suc, ◌+◌, ◌-◌, max, Bool, ◌&&◌, eqb, ltb, leb, length, get_or, Result, Ok, Err}
 use mathlib.Core.List.{List, [], ◌∷◌, ◌++◌, map, flat_map}
 use Rattle.numbers.specs.Choice.{first}
 use Rattle.dictionary.specs.Rows.{Row, Value, width, configuration, tables, logics, conditions, maths, received, cleared, read_only, condition, axis_or_response, operator}
-use Rattle.dictionary.specs.declared.types.Found.{Found}
-use Rattle.dictionary.specs.declared.types.Found.TheVariants.{NoIndex, NoSub, Count, At}
+use Rattle.dictionary.specs.declared.types.Named.{Named}
+use Rattle.dictionary.specs.declared.types.Named.TheVariants.{Count, At}
+use Rattle.dictionary.specs.declared.types.Missing.{Missing}
+use Rattle.dictionary.specs.declared.types.Missing.TheVariants.{Index, Sub}
 
 -- rows ascending by index
 unfoldable pub insert : Row → List Row → List Row
@@ -105,28 +107,27 @@ largest [] = 0
 largest (s ∷ ss) = max s.to (largest ss)
 
 -- the slot of a sub
-unfoldable pub at_sub : List Stretch → ℕ → Found
-at_sub [] sub = NoSub
-at_sub (s ∷ ss) sub = first (leb s.from sub && leb sub s.to) (At (s.slot + (sub - s.from))) (at_sub ss sub)
+unfoldable pub at_sub : List Stretch → ℕ → Result Named Missing
+at_sub [] sub = Err Sub
+at_sub (s ∷ ss) sub = first (leb s.from sub && leb sub s.to) (Ok (At (s.slot + (sub - s.from)))) (at_sub ss sub)
 
 -- "For a VAR, sub 0 is the value. For an ARRAY, sub 0 is the largest sub-index": its values begin behind sub 0.
 -- 1003h:0 is "unlike other arrays'" a value
-unfoldable pub named : List Stretch → ℕ → Found
-named [] sub = NoIndex
+unfoldable pub named : List Stretch → ℕ → Result Named Missing
+named [] sub = Err Index
 named (s ∷ ss) sub =
-    first (eqb sub 0 && ltb 0 s.from) (Count (largest (s ∷ ss))) (at_sub (s ∷ ss) sub)
+    first (eqb sub 0 && ltb 0 s.from) (Ok (Count (largest (s ∷ ss)))) (at_sub (s ∷ ss) sub)
 
 -- what an index with a sub-index names
-unfoldable pub find : ℕ → ℕ → Found
+unfoldable pub find : ℕ → ℕ → Result Named Missing
 unfolding stretches with_index named at_sub largest first
 find index sub = named (with_index index stretches) sub
 
 -- the slot of a name that has one
-abbrev pub slot_found : Found → ℕ
-slot_found NoIndex = 0
-slot_found NoSub = 0
-slot_found (Count n) = 0
-slot_found (At slot) = slot
+abbrev pub slot_found : Result Named Missing → ℕ
+slot_found (Err missing) = 0
+slot_found (Ok (Count n)) = 0
+slot_found (Ok (At slot)) = slot
 
 unfoldable pub slot_of : ℕ → ℕ → ℕ
 unfolding find
@@ -137,5 +138,5 @@ unfoldable pub hidden : List ℕ → ℕ → ℕ → Bool
 hidden unit index sub = eqb index 0x1003 && ltb (get_or unit (slot_of 0x1003 0) 0) sub
 
 -- what a name stands for in a unit as it is now
-unfoldable pub sought : List ℕ → ℕ → ℕ → Found
-sought unit index sub = first (hidden unit index sub) NoSub (find index sub)
+unfoldable pub sought : List ℕ → ℕ → ℕ → Result Named Missing
+sought unit index sub = first (hidden unit index sub) (Err Sub) (find index sub)

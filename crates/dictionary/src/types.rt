@@ -17,11 +17,16 @@ pub struct Range {
     pub high: i32,
 }
 
-// What an index with a sub-index names.
+// What an index with a sub-index names: the largest sub-index of an array, or an entry's slot.
 #[derive(Clone, Copy)]
-pub enum Found {
-    NoIndex,
-    NoSub,
+pub enum Named {
     Count(u8),
     At(usize),
+}
+
+// Which of the two names nothing.
+#[derive(Clone, Copy)]
+pub enum Missing {
+    Index,
+    Sub,
 }

@@ -6,6 +6,7 @@ use mathlib.Core.List.{List}
 use Prim.Native.Nat.{ℕ, ◌<◌}
 use lib.ListN.{length, get_or, set}
 use lib.Seq.{get_or-set_same, get_or-set_other}
+use Rattle.std.specs.Prelude.{Ok}
 use Rattle.numbers.specs.Choice.{first}
 use Rattle.numbers.specs.Order.{below}
 use Rattle.numbers.specs.Signed.{signed16}
@@ -13,11 +14,10 @@ use Rattle.dictionary.specs.Names.{configured}
 use Rattle.dictionary.proofs.Tabulate.{tabulate}
 use Rattle.roles.specs.Chains.{chains, upper_in, lower_in, upper_of, lower_of}
 use Rattle.roles.specs.Values.{range_of}
-use Rattle.entries.specs.Judge.{in_range, held, past_upper, past_lower, in_order, before, judged}
+use Rattle.entries.specs.Judge.{in_range, held, past_upper, past_lower, in_order, judged}
 use Rattle.entries.specs.Valid.{Valid}
 use Rattle.roles.specs.declared.types.Link.{Link}
 use Rattle.roles.specs.declared.types.Link.TheVariants.{Free, Loose, Strict}
-use Rattle.entries.specs.declared.types.Verdict.TheVariants.{Good}
 use Rattle.entries.proofs.Configuration.{at_each}
 use Rattle.entries.proofs.Neighbours.{near, another, is_another, upper_another, lower_another, turned, upper_same}
 
@@ -41,7 +41,7 @@ module _ (words : List ℕ) (slot word : ℕ) (h : slot < configured) (l : slot 
   beside : (u : ℕ) → another slot u ≡ true → get_or (set words slot word) u 0 ≡ get_or words u 0
   beside u e = get_or-set_other words slot u word 0 (is_another slot u e).1
 
-  inside : in_range (range_of slot) word ≡ Good
+  inside : in_range (range_of slot) word ≡ Ok tt
   inside = rw there at (v.ranged slot h)
 
   upward : past_upper words (upper_of slot) (signed16 word) ≡ false
@@ -63,6 +63,6 @@ module _ (words : List ℕ) (slot word : ℕ) (h : slot < configured) (l : slot 
   downward (Loose u) e q = ap (λ (w : ℕ). below (signed16 w) (held words u)) (sym there) ∙ from_below u (Loose slot) e q
   downward (Strict u) e q = ap (λ (w : ℕ). not (below (held words u) (signed16 w))) (sym there) ∙ from_below u (Strict slot) e q
 
-  pub allowed : judged words slot word ≡ Good
-  unfolding judged in_order before first
+  pub allowed : judged words slot word ≡ Ok tt
+  unfolding judged in_order first
   allowed = rw (inside, upward, downward (lower_of slot) (lower_another slot h) (down_and_up slot h))

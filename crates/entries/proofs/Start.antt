@@ -6,6 +6,7 @@ use Prim.Native.Nat.{◌^◌}
 use lib.Dec.{ltb}
 use lib.ListN.{get_or}
 use borrow.Author.Tests.{ltb-true}
+use Rattle.std.specs.Prelude.{Ok}
 use Rattle.numbers.specs.Choice.{first}
 use Rattle.numbers.specs.Order.{below}
 use Rattle.numbers.specs.Signed.{twos, signed16}
@@ -16,14 +17,13 @@ use Rattle.roles.specs.Chains.{chains, upper_in, upper_of}
 use Rattle.entries.specs.Judge.{number_of, finite, within, in_range, held, past_upper}
 use Rattle.entries.specs.Valid.{Valid}
 use Rattle.roles.specs.Values.{range_of, starts, at_start}
-use Rattle.entries.specs.declared.types.Verdict.TheVariants.{Good}
 use Rattle.entries.proofs.Configuration.{at_each}
 
 sizes_computed : tabulate configured 0 (λ slot. ltb (get_or at_start slot 0) (256 ^ width (range_of slot).kind)) ≡ tabulate configured 0 (λ slot. true)
 unfolding tabulate configured at_start starts range_of width
 sizes_computed = refl
 
-ranges_computed : tabulate configured 0 (λ slot. in_range (range_of slot) (get_or at_start slot 0)) ≡ tabulate configured 0 (λ slot. Good)
+ranges_computed : tabulate configured 0 (λ slot. in_range (range_of slot) (get_or at_start slot 0)) ≡ tabulate configured 0 (λ slot. Ok tt)
 unfolding tabulate configured at_start starts range_of in_range finite number_of within first below twos signed16
 ranges_computed = refl
 
@@ -35,6 +35,6 @@ pub valid_at_start : Valid at_start
 valid_at_start =
     record {
       sized = λ slot h. ltb-true (get_or at_start slot 0) (256 ^ width (range_of slot).kind) (at_each (λ slot. ltb (get_or at_start slot 0) (256 ^ width (range_of slot).kind)) (λ slot. true) sizes_computed slot h);
-      ranged = at_each (λ slot. in_range (range_of slot) (get_or at_start slot 0)) (λ slot. Good) ranges_computed;
+      ranged = at_each (λ slot. in_range (range_of slot) (get_or at_start slot 0)) (λ slot. Ok tt) ranges_computed;
       linked = at_each (λ slot. past_upper at_start (upper_of slot) (held at_start slot)) (λ slot. false) links_computed;
     }

@@ -1,6 +1,7 @@
 -- Judging one value for one entry, rows 7 to 9 of "Frames": the first that applies.
 -- Assumes nothing.
-use Rattle.std.specs.Prelude.{ℕ, ◌/◌, ◌%◌, Bool, true, false, not, List, eqb, ℤ, pos, get_or}
+use Rattle.std.specs.Prelude.{ℕ, ◌/◌, ◌%◌, Bool, true, false, not, List, eqb, ℤ, pos, get_or, Result, Ok, Err, ⊤}
+use Rattle.std.specs.Result.{result_and}
 use Rattle.numbers.specs.Choice.{first}
 use Rattle.numbers.specs.Order.{below}
 use Rattle.numbers.specs.Signed.{signed16}
@@ -11,8 +12,8 @@ use Rattle.dictionary.specs.declared.types.Kind.TheVariants.{Unsigned8, Integer1
 use Rattle.dictionary.specs.declared.types.Range.{Range}
 use Rattle.roles.specs.declared.types.Link.{Link}
 use Rattle.roles.specs.declared.types.Link.TheVariants.{Free, Loose, Strict}
-use Rattle.entries.specs.declared.types.Verdict.{Verdict}
-use Rattle.entries.specs.declared.types.Verdict.TheVariants.{Good, NotFinite, Above, Below, ChainUp, ChainDown}
+use Rattle.entries.specs.declared.types.Fault.{Fault}
+use Rattle.entries.specs.declared.types.Fault.TheVariants.{NotFinite, Above, Below, ChainUp, ChainDown}
 
 -- the number that a word holds, cut to the type's width. A REAL32 and an UNSIGNED32 have no range of their own: they count as 0, in 0..0
 unfoldable pub number_of : Kind → ℕ → ℤ
@@ -31,13 +32,13 @@ finite Real32 word = not (eqb (word / 0x800000 % 0x100) 0xFF)
 finite Unsigned32 word = true
 
 -- "8 above, below own range"
-unfoldable pub within : ℤ → ℤ → ℤ → Verdict
-within v low high = first (below high v) Above (first (below v low) Below Good)
+unfoldable pub within : ℤ → ℤ → ℤ → Result ⊤ Fault
+within v low high = first (below high v) (Err Above) (first (below v low) (Err Below) (Ok tt))
 
 -- "7 REAL32 not finite", then the range
-unfoldable pub in_range : Range → ℕ → Verdict
+unfoldable pub in_range : Range → ℕ → Result ⊤ Fault
 in_range range word =
-    first (not (finite range.kind word)) NotFinite (within (number_of range.kind word) range.low range.high)
+    first (not (finite range.kind word)) (Err NotFinite) (within (number_of range.kind word) range.low range.high)
 
 -- what a slot holds; every member of a chain is an INTEGER16
 unfoldable pub held : List ℕ → ℕ → ℤ
@@ -55,28 +56,11 @@ past_lower words (Loose slot) v = below v (held words slot)
 past_lower words (Strict slot) v = not (below (held words slot) v)
 
 -- "9 breaks the chain upward, downward"
-unfoldable pub in_order : List ℕ → ℕ → ℕ → Verdict
+unfoldable pub in_order : List ℕ → ℕ → ℕ → Result ⊤ Fault
 in_order words slot word =
-    first (past_upper words (upper_of slot) (signed16 word)) ChainUp
-    (first (past_lower words (lower_of slot) (signed16 word)) ChainDown Good)
+    first (past_upper words (upper_of slot) (signed16 word)) (Err ChainUp)
+    (first (past_lower words (lower_of slot) (signed16 word)) (Err ChainDown) (Ok tt))
 
 -- the range decides first
-unfoldable pub before : Verdict → Verdict → Verdict
-before Good other = other
-before NotFinite other = NotFinite
-before Above other = Above
-before Below other = Below
-before ChainUp other = ChainUp
-before ChainDown other = ChainDown
-
-unfoldable pub judged : List ℕ → ℕ → ℕ → Verdict
-judged words slot word = before (in_range (range_of slot) word) (in_order words slot word)
-
--- whether the judgement lets the value stand
-unfoldable pub is_good : Verdict → Bool
-is_good Good = true
-is_good NotFinite = false
-is_good Above = false
-is_good Below = false
-is_good ChainUp = false
-is_good ChainDown = false
+unfoldable pub judged : List ℕ → ℕ → ℕ → Result ⊤ Fault
+judged words slot word = result_and (in_range (range_of slot) word) (in_order words slot word)

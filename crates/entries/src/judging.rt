@@ -6,11 +6,11 @@ ghost use Rattle.entries.specs.Judge.{past_upper, past_lower, in_order, judged};
 ghost use Rattle.roles.specs.Roles.{Told};
 
 use crate::ranges::judge_range;
-use crate::types::Verdict;
+use crate::types::Fault;
 use chains::{lower, upper};
 use numbers::signed::signed;
 use roles::telling::role_of;
-use roles::types::Link;
+use roles::types::{Link, Role};
 
 // A slot past the last reads 0.
 fn fetch(words: &[u32], slot: usize) -> u32
@@ -44,32 +44,25 @@ fn under(words: &[u32], link: Link, v: i16) -> bool
     }
 }
 
-fn judge_chain(words: &[u32], role: u8, slot: usize, word: u32) -> Verdict
+fn judge_chain(words: &[u32], role: Role, slot: usize, word: u32) -> Result<(), Fault>
     requires { Told role slot }
     ensures { result ≡ in_order words.now slot word }
 {
     let v = signed(word);
     if over(words, upper(role, slot), v) {
-        return Verdict::ChainUp;
+        return Err(Fault::ChainUp);
     }
     if under(words, lower(role, slot), v) {
-        return Verdict::ChainDown;
+        return Err(Fault::ChainDown);
     }
-    Verdict::Good
+    Ok(())
 }
 
 // Any words, any slot, any word.
-pub fn judge(words: &[u32], slot: usize, word: u32) -> Verdict
+pub fn judge(words: &[u32], slot: usize, word: u32) -> Result<(), Fault>
     ensures { result ≡ judged words.now slot word }
 {
     let role = role_of(slot);
-    let own = judge_range(role, word);
-    match own {
-        Verdict::Good => judge_chain(words, role, slot, word),
-        Verdict::NotFinite => Verdict::NotFinite,
-        Verdict::Above => Verdict::Above,
-        Verdict::Below => Verdict::Below,
-        Verdict::ChainUp => Verdict::ChainUp,
-        Verdict::ChainDown => Verdict::ChainDown,
-    }
+    judge_range(role, word)?;
+    judge_chain(words, role, slot, word)
 }

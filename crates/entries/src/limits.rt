@@ -1,60 +1,38 @@
 // The type and range of a role.
-ghost use Rattle.std.specs.Prelude.{◌≡◌, ◌<◌};
+ghost use Rattle.std.specs.Prelude.{◌≡◌};
 ghost use Rattle.roles.specs.Roles.{ranged};
 
-use dictionary::types::Kind;
-use roles::telling::*;
+use dictionary::types::{Kind, Range};
+use roles::types::Role;
 
-pub fn kind_of(role: u8) -> Kind
-    ensures { result ≡ (ranged role).kind }
+fn range(kind: Kind, low: i32, high: i32) -> Range
+    ensures { result ≡ record { kind = kind; low = low; high = high } }
 {
-    if role < REAL {
-        return Kind::Unsigned8;
-    }
-    if role == REAL {
-        return Kind::Real32;
-    }
-    if role == TIME {
-        return Kind::Unsigned16;
-    }
-    if role == LONG {
-        return Kind::Unsigned32;
-    }
-    Kind::Integer16
+    Range { kind, low, high }
 }
 
-// The least value, where that is not the type's own.
-pub fn low_of(role: u8) -> i32
-    requires { role < 17 }
-    ensures { result ≡ (ranged role).low }
+// A REAL32 and an UNSIGNED32 have no range of their own.
+pub fn range_of(role: Role) -> Range
+    ensures { result ≡ ranged role }
 {
     match role {
-        TABLE => 1,
-        GAIN => -100,
-        _ => 0,
-    }
-}
-
-// The greatest.
-pub fn high_of(role: u8) -> i32
-    requires { role < 17 }
-    ensures { result ≡ (ranged role).high }
-{
-    match role {
-        AXIS => 0,
-        SWITCH => 1,
-        RESPONSE => 2,
-        DIGITS => 3,
-        OPERATOR => 4,
-        COMPARISON => 5,
-        SOURCE => 6,
-        NUMBER => 15,
-        TABLE => 6,
-        BYTE => 255,
-        REAL => 0,
-        TIME => 60000,
-        POSITIVE => 32767,
-        GAIN => 100,
-        _ => 2500,
+        Role::Axis => range(Kind::Unsigned8, 0, 0),
+        Role::Switch => range(Kind::Unsigned8, 0, 1),
+        Role::Response => range(Kind::Unsigned8, 0, 2),
+        Role::Digits => range(Kind::Unsigned8, 0, 3),
+        Role::Operator => range(Kind::Unsigned8, 0, 4),
+        Role::Comparison => range(Kind::Unsigned8, 0, 5),
+        Role::Source => range(Kind::Unsigned8, 0, 6),
+        Role::Number => range(Kind::Unsigned8, 0, 15),
+        Role::Table => range(Kind::Unsigned8, 1, 6),
+        Role::Byte => range(Kind::Unsigned8, 0, 255),
+        Role::Real => range(Kind::Real32, 0, 0),
+        Role::Time => range(Kind::Unsigned16, 0, 60000),
+        Role::Positive => range(Kind::Integer16, 0, 32767),
+        Role::Gain => range(Kind::Integer16, -100, 100),
+        Role::Current | Role::FvLow | Role::FvHigh => range(Kind::Integer16, 0, 2500),
+        Role::Long => range(Kind::Unsigned32, 0, 0),
+        // alone or in a chain
+        _ => range(Kind::Integer16, -32768, 32767),
     }
 }

@@ -1,13 +1,13 @@
 // Judging one value by the range of its role: finite, not above and not below.
-ghost use Rattle.std.specs.Prelude.{◌≡◌};
-ghost use Rattle.entries.specs.Judge.{number_of, finite, within, in_range, is_good};
+ghost use Rattle.std.specs.Prelude.{◌≡◌, is_ok};
+ghost use Rattle.entries.specs.Judge.{number_of, finite, within, in_range};
 ghost use Rattle.roles.specs.Roles.{ranged};
 
-use super::limits::{high_of, kind_of, low_of};
-use super::types::Verdict;
+use super::limits::range_of;
+use super::types::Fault;
 use dictionary::types::Kind;
 use numbers::signed::signed;
-use roles::telling::WHOLE;
+use roles::types::Role;
 
 fn number(kind: Kind, word: u32) -> i32
     ensures { result ≡ number_of kind word }
@@ -33,42 +33,31 @@ fn is_finite(kind: Kind, word: u32) -> bool
     }
 }
 
-fn judge_number(v: i32, low: i32, high: i32) -> Verdict
+fn judge_number(v: i32, low: i32, high: i32) -> Result<(), Fault>
     ensures { result ≡ within v low high }
 {
     if high < v {
-        return Verdict::Above;
+        return Err(Fault::Above);
     }
     if v < low {
-        return Verdict::Below;
+        return Err(Fault::Below);
     }
-    Verdict::Good
+    Ok(())
 }
 
-pub fn judge_range(role: u8, word: u32) -> Verdict
+pub fn judge_range(role: Role, word: u32) -> Result<(), Fault>
     ensures { result ≡ in_range (ranged role) word }
 {
-    // the whole range of INTEGER16 or UNSIGNED32
-    if WHOLE <= role {
-        return Verdict::Good;
+    let range = range_of(role);
+    if is_finite(range.kind, word) {
+        return judge_number(number(range.kind, word), range.low, range.high);
     }
-    let kind = kind_of(role);
-    if is_finite(kind, word) {
-        return judge_number(number(kind, word), low_of(role), high_of(role));
-    }
-    Verdict::NotFinite
+    Err(Fault::NotFinite)
 }
 
 // Whether a word may stand in the range of a role.
-pub fn fits(role: u8, word: u32) -> bool
-    ensures { result ≡ is_good (in_range (ranged role) word) }
+pub fn fits(role: Role, word: u32) -> bool
+    ensures { result ≡ is_ok (in_range (ranged role) word) }
 {
-    match judge_range(role, word) {
-        Verdict::Good => true,
-        Verdict::NotFinite => false,
-        Verdict::Above => false,
-        Verdict::Below => false,
-        Verdict::ChainUp => false,
-        Verdict::ChainDown => false,
-    }
+    judge_range(role, word).is_ok()
 }

@@ -1,7 +1,6 @@
-// What may be said of a value that is offered to an entry.
+// Why a value that is offered to an entry may not stand.
 #[derive(Clone, Copy)]
-pub enum Verdict {
-    Good,
+pub enum Fault {
     NotFinite,
     Above,
     Below,

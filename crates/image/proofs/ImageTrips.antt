@@ -17,10 +17,10 @@ use Rattle.dictionary.specs.Names.{Entry, entries, configured, index_at, sub_at}
 use Rattle.dictionary.specs.Rows.{width}
 use Rattle.dictionary.specs.declared.types.Range.{Range}
 use Rattle.roles.specs.Values.{range_of}
-use Rattle.entries.specs.Judge.{in_range, is_good}
+use Rattle.entries.specs.Judge.{in_range}
 use Rattle.entries.specs.Valid.{Valid}
-use Rattle.entries.specs.declared.types.Verdict.{Verdict}
-use Rattle.entries.specs.declared.types.Verdict.TheVariants.{Good, NotFinite, Above, Below, ChainUp, ChainDown}
+use Rattle.std.specs.Prelude.{Result, Ok, Err, is_ok, ⊤}
+use Rattle.entries.specs.declared.types.Fault.{Fault}
 use Rattle.records.specs.Layout.{Listed, listed, nothing, size, records, image_of, entry, offset}
 use Rattle.records.specs.Walk.{data_in, fits, values}
 use Rattle.records.proofs.RightLaws.{AllRight, Whole}
@@ -84,7 +84,7 @@ at_entry test (x ∷ es) e (suc k) h = at_entry test es ((and-eq-true_iff (test 
 
 module _ (unit : List ℕ) (valid : Valid unit) (long : configured ≤ length unit) where
   fit_at : (slot : ℕ) → slot < length listed → Fit (entry listed slot) (get_or unit slot 0)
-  unfolding small_name size fits is_good
+  unfolding small_name size fits
   fit_at slot h =
       let inside : slot < configured = omega (arith, all_listed) in
       let range = entry_range slot inside in
@@ -94,7 +94,7 @@ module _ (unit : List ℕ) (valid : Valid unit) (long : configured ≤ length un
         index = ltb-true (entry listed slot).index 65536 both.0;
         sub = ltb-true (entry listed slot).sub 256 both.1;
         sized = subst (λ (r : Range). get_or unit slot 0 < 256 ^ width r.kind) (sym range) (valid.sized slot inside);
-        fit = ap (λ (r : Range). is_good (in_range r (get_or unit slot 0))) range ∙ ap is_good (valid.ranged slot inside);
+        fit = ap (λ (r : Range). is_ok (in_range r (get_or unit slot 0))) range ∙ ap is_ok (valid.ranged slot inside);
       }
 
   behind : drop 4 (image_of unit) ≡ records listed unit ++ []
@@ -144,14 +144,9 @@ module _ (image : List ℕ) (a : Accepted image) (b : Bytes image) where
       ∙ records_back listed (drop 4 image) a.walk.rights (bytes_from 4 image b) (omega (arith, listed_extent)) in
       rw (front, rest) (take-append-drop 4 image)
 
-only_good : (v : Verdict) → is_good v ≡ true → v ≡ Good
-unfolding is_good
-only_good Good e = refl
-only_good NotFinite e = absurd (true≢false (sym e))
-only_good Above e = absurd (true≢false (sym e))
-only_good Below e = absurd (true≢false (sym e))
-only_good ChainUp e = absurd (true≢false (sym e))
-only_good ChainDown e = absurd (true≢false (sym e))
+only_good : (v : Result ⊤ Fault) → is_ok v ≡ true → v ≡ Ok tt
+only_good (Ok x) e = refl
+only_good (Err fault) e = absurd (true≢false (sym e))
 
 module _ (image : List ℕ) (a : Accepted image) (b : Bytes image) where
   held_at : (slot : ℕ) → slot < configured → get_or (configuration_in image) slot 0 ≡ data_in (size (entry listed slot)) (drop (offset listed slot) (drop 4 image))
@@ -174,7 +169,7 @@ module _ (image : List ℕ) (a : Accepted image) (b : Bytes image) where
       rw (held_at slot h) (little_below (size (entry listed slot)) (drop 7 (drop (offset listed slot) (drop 4 image)))
       (bytes_from 7 (drop (offset listed slot) (drop 4 image)) (bytes_from (offset listed slot) (drop 4 image) (bytes_from 4 image b))))
 
-  in_its_range : (slot : ℕ) → slot < configured → in_range (entry listed slot).range (get_or (configuration_in image) slot 0) ≡ Good
+  in_its_range : (slot : ℕ) → slot < configured → in_range (entry listed slot).range (get_or (configuration_in image) slot 0) ≡ Ok tt
   unfolding fits
   in_its_range slot h =
       only_good _ (rw (held_at slot h) (right_at listed (drop 4 image) a.walk.rights slot (omega (arith, all_listed))).fit)
@@ -183,6 +178,6 @@ module _ (image : List ℕ) (a : Accepted image) (b : Bytes image) where
   configuration_valid =
       record {
         sized = λ slot h. subst (λ (r : Range). get_or (configuration_in image) slot 0 < 256 ^ width r.kind) (entry_range slot h) (below_size slot h);
-        ranged = λ slot h. subst (λ (r : Range). in_range r (get_or (configuration_in image) slot 0) ≡ Good) (entry_range slot h) (in_its_range slot h);
+        ranged = λ slot h. subst (λ (r : Range). in_range r (get_or (configuration_in image) slot 0) ≡ Ok tt) (entry_range slot h) (in_its_range slot h);
         linked = λ slot h. order_linked (configuration_in image) a.order slot;
       }

@@ -10,6 +10,7 @@ ghost use Rattle.image.specs.Written.{Written};
 use crate::writing::placing::{put_number, write_row};
 use crate::writing::types::Front;
 use dictionary::slots::EC_VALUE;
+use records::rows::Row;
 use records::types::Refusal;
 use records::walking::rows::ROWS;
 
@@ -20,7 +21,7 @@ const RECORDS: u32 = EC_VALUE as u32;
 const IMAGE_SIZE: usize = 5_207;
 
 // The records of some rows, one after the other.
-fn write_rows(words: &[u32], image: &mut [u8], rows: &[u32], from: Front) -> Front
+fn write_rows(words: &[u32], image: &mut [u8], rows: &[Row], from: Front) -> Front
     requires { Room (flat_map row_of rows.now) from image.old }
     ensures { Placed (flat_map row_of rows.now) words.now from image.old image.new result }
 {

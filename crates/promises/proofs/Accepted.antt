@@ -11,11 +11,14 @@ use borrow.Author.Tests.{ltb-true, ltb-false, not-false}
 use Rattle.numbers.specs.Choice.{first}
 use Rattle.dictionary.specs.Names.{find, sought, writable}
 use Rattle.dictionary.proofs.naming.Sought.{sought_at}
-use Rattle.dictionary.specs.declared.types.Found.{Found}
-use Rattle.dictionary.specs.declared.types.Found.TheVariants as found
+use Rattle.std.specs.Prelude.{Result, Ok, Err, ⊤}
+use Rattle.dictionary.specs.declared.types.Named.{Named}
+use Rattle.dictionary.specs.declared.types.Named.TheVariants.{Count, At}
+use Rattle.dictionary.specs.declared.types.Missing.{Missing}
+use Rattle.dictionary.specs.declared.types.Missing.TheVariants as missing
 use Rattle.entries.specs.Judge.{judged}
-use Rattle.entries.specs.declared.types.Verdict.{Verdict}
-use Rattle.entries.specs.declared.types.Verdict.TheVariants as verdict
+use Rattle.entries.specs.declared.types.Fault.{Fault}
+use Rattle.entries.specs.declared.types.Fault.TheVariants as fault
 use Rattle.sdo.specs.Answers.{size_of, reading, stored, unclear, offered, refused, length_of, writing, obeyed, silent, answer}
 use Rattle.sdo.specs.Frames.{command_of, index_in, sub_in, data_in}
 use Rattle.sdo.specs.declared.types.Abort.{Abort}
@@ -29,11 +32,11 @@ use Rattle.sdo.proofs.ReplyLaws.{written_speaks}
 
 pub record Accepted (words frame : List ℕ) (slot word : ℕ) : Type 0 where
   pub eight : length frame ≡ 8
-  pub found : find (index_in frame) (sub_in frame) ≡ found.At slot
+  pub found : find (index_in frame) (sub_in frame) ≡ Ok (At slot)
   pub below : slot < writable
   pub holds : word ≡ data_in (size_of slot) frame
   pub clear : unclear slot word ≡ false
-  pub good : judged words slot word ≡ verdict.Good
+  pub good : judged words slot word ≡ Ok tt
 
 module _ (words frame : List ℕ) (room slot word : ℕ) where
   no_abort : (a : Abort) → Aborted a ≡ Written slot word → ⊥
@@ -54,18 +57,18 @@ module _ (words frame : List ℕ) (room slot word : ℕ) where
   passed false a rest e = (refl, e)
 
   -- only a good verdict stores
-  only_good : (s w : ℕ) (v : Verdict) → stored s w v ≡ Written slot word → (v ≡ verdict.Good) × (s ≡ slot) × (w ≡ word)
+  only_good : (s w : ℕ) (v : Result ⊤ Fault) → stored s w v ≡ Written slot word → (v ≡ Ok tt) × (s ≡ slot) × (w ≡ word)
   unfolding stored
-  only_good s w verdict.Good e = (refl, cc, cc)
-  only_good s w verdict.NotFinite e = absurd (no_abort _ e)
-  only_good s w verdict.Above e = absurd (no_abort _ e)
-  only_good s w verdict.Below e = absurd (no_abort _ e)
-  only_good s w verdict.ChainUp e = absurd (no_abort _ e)
-  only_good s w verdict.ChainDown e = absurd (no_abort _ e)
+  only_good s w (Ok x) e = (refl, cc, cc)
+  only_good s w (Err fault.NotFinite) e = absurd (no_abort _ e)
+  only_good s w (Err fault.Above) e = absurd (no_abort _ e)
+  only_good s w (Err fault.Below) e = absurd (no_abort _ e)
+  only_good s w (Err fault.ChainUp) e = absurd (no_abort _ e)
+  only_good s w (Err fault.ChainDown) e = absurd (no_abort _ e)
 
   module _ (eight : length frame ≡ 8) where
     -- rows 5 to 9
-    by_offer : (s size : ℕ) → find (index_in frame) (sub_in frame) ≡ found.At s
+    by_offer : (s size : ℕ) → find (index_in frame) (sub_in frame) ≡ Ok (At s)
         → offered words s size (data_in size frame) ≡ Written slot word → Accepted words frame slot word
     unfolding offered
     by_offer s size f e =
@@ -82,7 +85,7 @@ module _ (words frame : List ℕ) (room slot word : ℕ) where
         let own_size : size_of s ≡ size = omega arith in
         record {
           eight = eight;
-          found = f ∙ ap found.At same;
+          found = f ∙ ap (λ (n : ℕ). Ok (At n)) same;
           below = rw same at l;
           holds = sym data_is ∙ ap (λ (n : ℕ). data_in n frame) (sym (rw same at own_size));
           clear = rw (same, data_is) at clear.0;
@@ -90,19 +93,19 @@ module _ (words frame : List ℕ) (room slot word : ℕ) where
         }
 
     -- rows 3 and 4
-    by_name : (size : Size) (f : Found) → sought words (index_in frame) (sub_in frame) ≡ f → writing words frame size f ≡ Written slot word → Accepted words frame slot word
+    by_name : (size : Size) (f : Result Named Missing) → sought words (index_in frame) (sub_in frame) ≡ f → writing words frame size f ≡ Written slot word → Accepted words frame slot word
     unfolding writing refused
-    by_name size found.NoIndex f e = absurd (no_abort _ e)
-    by_name size found.NoSub f e = absurd (no_abort _ e)
-    by_name size (found.Count n) f e = absurd (no_abort _ e)
-    by_name size (found.At s) f e = by_offer s (length_of size (size_of s)) (sought_at words (index_in frame) (sub_in frame) s f) e
+    by_name size (Err missing.Index) f e = absurd (no_abort _ e)
+    by_name size (Err missing.Sub) f e = absurd (no_abort _ e)
+    by_name size (Ok (Count n)) f e = absurd (no_abort _ e)
+    by_name size (Ok (At s)) f e = by_offer s (length_of size (size_of s)) (sought_at words (index_in frame) (sub_in frame) s f) e
 
-    no_read : (f : Found) → reading words f ≡ Written slot word → ⊥
+    no_read : (f : Result Named Missing) → reading words f ≡ Written slot word → ⊥
     unfolding reading
-    no_read found.NoIndex e = no_abort _ e
-    no_read found.NoSub e = no_abort _ e
-    no_read (found.Count n) e = no_value _ _ e
-    no_read (found.At s) e = no_value _ _ e
+    no_read (Err missing.Index) e = no_abort _ e
+    no_read (Err missing.Sub) e = no_abort _ e
+    no_read (Ok (Count n)) e = no_value _ _ e
+    no_read (Ok (At s)) e = no_value _ _ e
 
     -- row 2
     by_command : (c : Command) → obeyed words frame c ≡ Written slot word → Accepted words frame slot word

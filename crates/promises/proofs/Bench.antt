@@ -18,7 +18,7 @@ use Rattle.dictionary.specs.Rows.{width}
 use Rattle.dictionary.specs.Unit.{signals_at, runs_at, flags_at, before_at, unit_size}
 use Rattle.dictionary.proofs.Unticked.{signals_behind, signals_before, mark_behind, mark_inside}
 use Rattle.roles.specs.Chains.{chains, upper_in, lower_in, upper_of, lower_of}
-use Rattle.entries.specs.Judge.{number_of, finite, within, in_range, held, past_upper, past_lower, in_order, before, judged}
+use Rattle.entries.specs.Judge.{number_of, finite, within, in_range, held, past_upper, past_lower, in_order, judged}
 use Rattle.entries.proofs.Start.{valid_at_start}
 use Rattle.roles.specs.Values.{range_of, starts, at_start}
 use Rattle.roles.proofs.StartLaws.{start_zero}
@@ -63,5 +63,5 @@ read_as : (v pv : ℤ) → pattern16 (whole (input.sensed (settings at_start 1) 
 read_as v pv e others = asked (ticked (v ∷ others) at_start) ∙ ap (reply read_process 0x4B) (ap (λ (w : ℕ). w % 0x10000) (first_sensed v others) ∙ e)
 
 pub on_the_bench : OnTheBench
-unfolding settings memory whole input.sensed input.signal_of input.flagged_after input.run_after input.out input.within input.clears input.process entry.whole entry.entry entry.switched entry.byte entry.time runs_at flags_at signals_at words unit_size pattern16 least value unused used reaches place interval curve looked_up slot_of limit_whole nearest_size nearest between line_at limit16 nearest16 of_bits first below twos signed16 find hidden sought writable width chains upper_in lower_in upper_of lower_of number_of finite within in_range held past_upper past_lower in_order before judged range_of starts at_start size_of reading stored unclear offered refused length_of writing obeyed silent answer little bytes index_in sub_in name_in data_in command_of code reply reply_to
+unfolding settings memory whole input.sensed input.signal_of input.flagged_after input.run_after input.out input.within input.clears input.process entry.whole entry.entry entry.switched entry.byte entry.time runs_at flags_at signals_at words unit_size pattern16 least value unused used reaches place interval curve looked_up slot_of limit_whole nearest_size nearest between line_at limit16 nearest16 of_bits first below twos signed16 find hidden sought writable width chains upper_in lower_in upper_of lower_of number_of finite within in_range held past_upper past_lower in_order judged range_of starts at_start size_of reading stored unclear offered refused length_of writing obeyed silent answer little bytes index_in sub_in name_in data_in command_of code reply reply_to
 on_the_bench = (refl, (refl, (refl, (refl, (refl, (refl, (refl, (read_as (pos 2500) (pos 500) refl, (read_as (pos 501) (pos 0) refl, (read_as (pos 502) (pos 1) refl, (refl, (refl, tt))))))))))))

@@ -14,8 +14,11 @@ use Rattle.dictionary.specs.Names.{slot_of, sought, configured, writable, words}
 use Rattle.dictionary.specs.Unit.{signals_at, runs_at, flags_at, before_at, unit_size}
 use Rattle.dictionary.proofs.Unticked.{signals_behind, signals_before}
 use Rattle.dictionary.specs.Rows.{width}
-use Rattle.dictionary.specs.declared.types.Found.{Found}
-use Rattle.dictionary.specs.declared.types.Found.TheVariants as found
+use Rattle.std.specs.Prelude.{Result, Ok, Err}
+use Rattle.dictionary.specs.declared.types.Named.{Named}
+use Rattle.dictionary.specs.declared.types.Named.TheVariants.{At}
+use Rattle.dictionary.specs.declared.types.Missing.{Missing}
+use Rattle.dictionary.specs.declared.types.Missing.TheVariants as missing
 use Rattle.dictionary.proofs.naming.NameLaws.{errors_kept, errors_value, counted}
 use Rattle.dictionary.proofs.naming.Sought.{past_kept, up_to_kept}
 use Rattle.dictionary.proofs.Tabulate.{tabulate, agree}
@@ -84,13 +87,13 @@ module _ (unit f : List ℕ) (room sub : ℕ) (size : length unit ≡ unit_size)
   kept_is = agrees
 
   -- what its subs stand for
-  none_there : length (errors unit) < sub → found.NoSub ≡ sought unit 0x1003 sub
+  none_there : length (errors unit) < sub → Err missing.Sub ≡ sought unit 0x1003 sub
   none_there h = past_kept unit sub (omega (arith, kept_is))
 
-  number_there : sub ≡ 0 → found.At (slot_of 0x1003 0) ≡ sought unit 0x1003 sub
+  number_there : sub ≡ 0 → Ok (At (slot_of 0x1003 0)) ≡ sought unit 0x1003 sub
   number_there z = errors_kept sub z ∙ up_to_kept unit sub (omega arith)
 
-  one_there : 0 < sub → sub ≤ length (errors unit) → found.At (slot_of 0x1003 1 + (sub - 1)) ≡ sought unit 0x1003 sub
+  one_there : 0 < sub → sub ≤ length (errors unit) → Ok (At (slot_of 0x1003 1 + (sub - 1))) ≡ sought unit 0x1003 sub
   one_there low high =
       let few = errors_few unit in
       errors_value sub (λ e. omega arith) (omega arith) ∙ up_to_kept unit sub (omega (arith, kept_is))
@@ -110,17 +113,17 @@ module _ (unit f : List ℕ) (room sub : ℕ) (size : length unit ≡ unit_size)
   answered c e taken =
       sym (spoken unit f room n.eight n.roomy (λ a. taken (sym e ∙ ap command_of a))) ∙ ap (obeyed unit f) e
 
-  read_is : command_of (get_or f 0 0) ≡ Read → (g : Found) → g ≡ sought unit 0x1003 sub → answer unit f room ≡ reading unit g
+  read_is : command_of (get_or f 0 0) ≡ Read → (g : Result Named Missing) → g ≡ sought unit 0x1003 sub → answer unit f room ≡ reading unit g
   unfolding obeyed
   read_is c g e = answered Read c (λ q. let z : ◌≡◌ {A = ℕ} 0 1 = cc in omega arith) ∙ rw (n.list, n.place, ← e)
 
-  write_is : (s : Size) → command_of (get_or f 0 0) ≡ Write s → (g : Found) → g ≡ sought unit 0x1003 sub → answer unit f room ≡ writing unit f s g
+  write_is : (s : Size) → command_of (get_or f 0 0) ≡ Write s → (g : Result Named Missing) → g ≡ sought unit 0x1003 sub → answer unit f room ≡ writing unit f s g
   unfolding obeyed
   write_is s c g e = answered (Write s) c (λ q. let z : ◌≡◌ {A = ℕ} 0 1 = cc in omega arith) ∙ rw (n.list, n.place, ← e)
 
   -- a byte for sub 0
   one_byte : (s : Size) → length_of s 1 ≡ 1
-      → first (unclear (slot_of 0x1003 0) (data_in 1 f)) (Aborted abort.NotClear) (Written (slot_of 0x1003 0) (data_in 1 f)) ≡ writing unit f s (found.At (slot_of 0x1003 0))
+      → first (unclear (slot_of 0x1003 0) (data_in 1 f)) (Aborted abort.NotClear) (Written (slot_of 0x1003 0) (data_in 1 f)) ≡ writing unit f s (Ok (At (slot_of 0x1003 0)))
   unfolding stored
   one_byte s l =
       rw (any_good unit (data_in 1 f)) at

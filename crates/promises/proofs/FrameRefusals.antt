@@ -12,11 +12,14 @@ use Rattle.dictionary.specs.Names.{Stretch, stretches, with_index, largest, at_s
 use Rattle.dictionary.specs.Objects.{meant}
 use Rattle.dictionary.specs.declared.objects.Object.TheVariants.{Errors}
 use Rattle.dictionary.proofs.naming.NameLaws.{by_object}
-use Rattle.dictionary.specs.declared.types.Found.{Found}
-use Rattle.dictionary.specs.declared.types.Found.TheVariants.{NoIndex, NoSub, Count, At}
-use Rattle.roles.specs.Roles.{chosen}
-use Rattle.entries.specs.Judge.{within, in_range, in_order, before, judged}
-use Rattle.entries.specs.declared.types.Verdict.TheVariants as verdict
+use Rattle.std.specs.Prelude.{Result, Ok, Err}
+use Rattle.std.specs.Result.{result_and}
+use Rattle.dictionary.specs.declared.types.Named.{Named}
+use Rattle.dictionary.specs.declared.types.Named.TheVariants.{Count, At}
+use Rattle.dictionary.specs.declared.types.Missing.{Missing}
+use Rattle.dictionary.specs.declared.types.Missing.TheVariants as missing
+use Rattle.entries.specs.Judge.{within, in_range, in_order, judged}
+use Rattle.entries.specs.declared.types.Fault.TheVariants as fault
 use Rattle.roles.specs.Values.{range_of}
 use Rattle.sdo.specs.Answers.{size_of, reading, stored, offered, refused, length_of, writing, obeyed, silent, answer}
 use Rattle.sdo.specs.Frames.{command_of, index_in, sub_in, data_in, code}
@@ -28,14 +31,14 @@ use Rattle.sdo.specs.declared.types.Size.TheVariants.{Told, Untold}
 use Rattle.dictionary.specs.Rows.{width}
 use Rattle.dictionary.specs.declared.types.Kind.{Kind}
 use Rattle.dictionary.specs.declared.types.Kind.TheVariants.{Unsigned8, Integer16, Unsigned16, Real32, Unsigned32}
-use Rattle.promises.specs.FrameRefusals.{first_match, bytes_written, own_bytes, unknown_index, unknown_sub, read_only, name_rows, frame_rows, good, code_sent, FramesMeetTheirs, CodesAsListed}
+use Rattle.promises.specs.FrameRefusals.{chosen, first_match, bytes_written, own_bytes, unknown_index, unknown_sub, read_only, name_rows, frame_rows, good, code_sent, FramesMeetTheirs, CodesAsListed}
 
 -- ---- rows 7 to 9: the judgement, row by row
 
 judged_rows : (infinite above under up down : Bool) (slot word : ℕ)
-    → stored slot word (before (first infinite verdict.NotFinite (first above verdict.Above (first under verdict.Below verdict.Good))) (first up verdict.ChainUp (first down verdict.ChainDown verdict.Good)))
+    → stored slot word (result_and (first infinite (Err fault.NotFinite) (first above (Err fault.Above) (first under (Err fault.Below) (Ok (tt {0}))))) (first up (Err fault.ChainUp) (first down (Err fault.ChainDown) (Ok tt))))
     ≡ first infinite (Aborted abort.NotFinite) (first above (Aborted abort.Above) (first under (Aborted abort.Below) (first up (Aborted abort.ChainUp) (first down (Aborted abort.ChainDown) (Written slot word)))))
-unfolding first before stored
+unfolding first stored
 judged_rows true above under up down slot word = refl
 judged_rows false true under up down slot word = refl
 judged_rows false false true up down slot word = refl
@@ -45,29 +48,29 @@ judged_rows false false false false false slot word = refl
 
 module _ (unit : List ℕ) (word : ℕ) where
   -- a read meets rows 3 and 4 alone
-  read_rows : (name : Found) (above : Bool) → (above ≡ true → unknown_index name ≡ false) → reading unit (first above NoSub name) ≡ first_match (name_rows unit name above 0 word) (reading unit name)
+  read_rows : (name : Result Named Missing) (above : Bool) → (above ≡ true → unknown_index name ≡ false) → reading unit (first above (Err missing.Sub) name) ≡ first_match (name_rows unit name above 0 word) (reading unit name)
   unfolding reading name_rows unknown_index unknown_sub first_match first
-  read_rows NoIndex true known = absurd (true≢false (known refl))
-  read_rows NoIndex false known = refl
-  read_rows NoSub true known = refl
-  read_rows NoSub false known = refl
-  read_rows (Count n) true known = refl
-  read_rows (Count n) false known = refl
-  read_rows (At slot) true known = refl
-  read_rows (At slot) false known = refl
+  read_rows (Err missing.Index) true known = absurd (true≢false (known refl))
+  read_rows (Err missing.Index) false known = refl
+  read_rows (Err missing.Sub) true known = refl
+  read_rows (Err missing.Sub) false known = refl
+  read_rows (Ok (Count n)) true known = refl
+  read_rows (Ok (Count n)) false known = refl
+  read_rows (Ok (At slot)) true known = refl
+  read_rows (Ok (At slot)) false known = refl
 
 -- a write of as many bytes as it tells, or as its entry has
-write_rows : (unit frame : List ℕ) (size : Size) (name : Found) (above : Bool) → (above ≡ true → unknown_index name ≡ false) → let n = length_of size (own_bytes name) in
-    ltb 0 n ≡ true → writing unit frame size (first above NoSub name) ≡ first_match (name_rows unit name above n (data_in n frame)) (Written (slot_found name) (data_in n frame))
+write_rows : (unit frame : List ℕ) (size : Size) (name : Result Named Missing) (above : Bool) → (above ≡ true → unknown_index name ≡ false) → let n = length_of size (own_bytes name) in
+    ltb 0 n ≡ true → writing unit frame size (first above (Err missing.Sub) name) ≡ first_match (name_rows unit name above n (data_in n frame)) (Written (slot_found name) (data_in n frame))
 unfolding writing refused offered size_of judged in_range within in_order name_rows own_bytes unknown_index unknown_sub read_only first_match first
-write_rows unit frame size NoIndex true known h = absurd (true≢false (known refl))
-write_rows unit frame size NoIndex false known h = refl
-write_rows unit frame size NoSub true known h = refl
-write_rows unit frame size NoSub false known h = refl
-write_rows unit frame size (Count n) true known h = refl
-write_rows unit frame size (Count n) false known h = rw h
-write_rows unit frame size (At slot) true known h = refl
-write_rows unit frame size (At slot) false known h = rw (h, judged_rows)
+write_rows unit frame size (Err missing.Index) true known h = absurd (true≢false (known refl))
+write_rows unit frame size (Err missing.Index) false known h = refl
+write_rows unit frame size (Err missing.Sub) true known h = refl
+write_rows unit frame size (Err missing.Sub) false known h = refl
+write_rows unit frame size (Ok (Count n)) true known h = refl
+write_rows unit frame size (Ok (Count n)) false known h = rw h
+write_rows unit frame size (Ok (At slot)) true known h = refl
+write_rows unit frame size (Ok (At slot)) false known h = rw (h, judged_rows)
 
 -- every type has some bytes
 some_bytes : (kind : Kind) → ltb 0 (width kind) ≡ true
@@ -78,7 +81,7 @@ some_bytes Unsigned16 = refl
 some_bytes Real32 = refl
 some_bytes Unsigned32 = refl
 
-own_some : (name : Found) → ltb 0 (own_bytes name) ≡ true
+own_some : (name : Result Named Missing) → ltb 0 (own_bytes name) ≡ true
 unfolding own_bytes
 own_some name = some_bytes (range_of (slot_found name)).kind
 
@@ -89,7 +92,7 @@ unfolding at_sub first unknown_index
 sub_told [] sub = refl
 sub_told (s ∷ ss) sub = go (leb s.from sub && leb sub s.to) (sub_told ss sub)
   where
-    go : (b : Bool) → unknown_index (at_sub ss sub) ≡ false → unknown_index (first b (At (s.slot + (sub - s.from))) (at_sub ss sub)) ≡ false
+    go : (b : Bool) → unknown_index (at_sub ss sub) ≡ false → unknown_index (first b (Ok (At (s.slot + (sub - s.from)))) (at_sub ss sub)) ≡ false
     go true h = refl
     go false h = h
 
@@ -97,7 +100,7 @@ errors_known : (sub : ℕ) → unknown_index (find 0x1003 sub) ≡ false
 unfolding meant with_index stretches named first unknown_index
 errors_known sub = rw (← by_object Errors Errors 0x1003 sub refl (record { are = refl })) (go (eqb sub 0 && ltb 0 0))
   where
-    go : (b : Bool) → unknown_index (first b (Count (largest (meant Errors 0))) (at_sub (meant Errors 0) sub)) ≡ false
+    go : (b : Bool) → unknown_index (first b (Ok (Count (largest (meant Errors 0)))) (at_sub (meant Errors 0) sub)) ≡ false
     go true = refl
     go false = sub_told (meant Errors 0) sub
 
@@ -110,7 +113,7 @@ index_known unit index sub h =
 -- ---- row 2, and then by the command
 
 module _ (unit frame : List ℕ) where
-  name : Found
+  name : Result Named Missing
   name = find (index_in frame) (sub_in frame)
 
   above : Bool

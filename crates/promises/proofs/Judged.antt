@@ -5,37 +5,34 @@ use mathlib.Core.Bool.{Bool, true, false}
 use mathlib.Core.List.{List}
 use Prim.Native.Nat.{ℕ, ◌<◌}
 use lib.ListN.{get_or}
+use Rattle.std.specs.Prelude.{Result, Ok, Err, ⊤}
+use Rattle.std.specs.Result.{result_and}
 use Rattle.numbers.specs.Choice.{first}
 use Rattle.numbers.specs.Signed.{signed16}
 use Rattle.dictionary.specs.Names.{configured}
 use Rattle.roles.specs.Chains.{upper_of, lower_of}
-use Rattle.entries.specs.Judge.{in_range, past_upper, past_lower, in_order, before, judged}
+use Rattle.entries.specs.Judge.{in_range, past_upper, past_lower, in_order, judged}
 use Rattle.roles.specs.Values.{range_of}
-use Rattle.entries.specs.declared.types.Verdict.{Verdict}
-use Rattle.entries.specs.declared.types.Verdict.TheVariants.{Good, NotFinite, Above, Below, ChainUp, ChainDown}
+use Rattle.entries.specs.declared.types.Fault.{Fault}
+use Rattle.entries.specs.declared.types.Fault.TheVariants.{ChainUp, ChainDown}
 use Rattle.entries.proofs.Neighbours.{another, is_another, upper_another, lower_another, upper_same, lower_same}
 
-both_good : (range chain : Verdict) → before range chain ≡ Good → (range ≡ Good) × (chain ≡ Good)
-unfolding before
-both_good Good chain e = (refl, e)
-both_good NotFinite chain e = (e, cc)
-both_good Above chain e = (e, cc)
-both_good Below chain e = (e, cc)
-both_good ChainUp chain e = (e, cc)
-both_good ChainDown chain e = (e, cc)
+both_good : (range chain : Result ⊤ Fault) → result_and range chain ≡ Ok tt → (range ≡ Ok tt) × (chain ≡ Ok tt)
+both_good (Ok x) chain e = (refl, e)
+both_good (Err fault) chain e = (e, cc)
 
-past_neither : (up down : Bool) → first up ChainUp (first down ChainDown Good) ≡ Good → (up ≡ false) × (down ≡ false)
+past_neither : (up down : Bool) → ◌≡◌ {A = Result ⊤ Fault} (first up (Err ChainUp) (first down (Err ChainDown) (Ok tt))) (Ok tt) → (up ≡ false) × (down ≡ false)
 unfolding first
 past_neither true down e = (cc, cc)
 past_neither false true e = (refl, cc)
 past_neither false false e = (refl, refl)
 
 pub record Fitting (words : List ℕ) (slot word : ℕ) : Type 0 where
-  pub inside : in_range (range_of slot) word ≡ Good
+  pub inside : in_range (range_of slot) word ≡ Ok tt
   pub upward : past_upper words (upper_of slot) (signed16 word) ≡ false
   pub downward : past_lower words (lower_of slot) (signed16 word) ≡ false
 
-pub fitting : (words : List ℕ) (slot word : ℕ) → judged words slot word ≡ Good → Fitting words slot word
+pub fitting : (words : List ℕ) (slot word : ℕ) → judged words slot word ≡ Ok tt → Fitting words slot word
 unfolding judged in_order
 fitting words slot word e =
     let both = both_good (in_range (range_of slot) word) (in_order words slot word) e in

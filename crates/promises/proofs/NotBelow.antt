@@ -25,7 +25,9 @@ use Rattle.dictionary.proofs.Unticked.{signals_behind, signals_before, words_sta
 use Rattle.roles.specs.Values.{range_of, starts, at_start}
 use Rattle.entries.specs.Judge.{number_of, finite, within, in_range}
 use Rattle.entries.specs.Valid.{Valid}
-use Rattle.entries.specs.declared.types.Verdict.TheVariants.{Good, Above, Below}
+use Rattle.std.specs.Prelude.{Result, Ok, Err, ⊤}
+use Rattle.entries.specs.declared.types.Fault.{Fault}
+use Rattle.entries.specs.declared.types.Fault.TheVariants.{Above, Below}
 use Rattle.sdo.specs.Answers.{answer}
 use Rattle.sdo.specs.declared.types.Answer.{Answer}
 use Rattle.sdo.specs.declared.types.Answer.TheVariants.{Silent, Aborted, Value, Written}
@@ -88,11 +90,11 @@ overrides : tabulate 4 0 (λ k. range_of (slot_of 0x2300 (k + 1))) ≡ tabulate 
 unfolding tabulate field range_of slot_of
 overrides = refl
 
-from_0 : (v : ℤ) → within v (pos 0) (pos 2500) ≡ Good → pos 0 ≤ℤ v
+from_0 : (v : ℤ) → within v (pos 0) (pos 2500) ≡ Ok tt → pos 0 ≤ℤ v
 unfolding within first
 from_0 v e = by (below (pos 2500) v) (below v (pos 0)) refl e
   where
-    by : (t u : Bool) → below v (pos 0) ≡ u → first t Above (first u Below Good) ≡ Good → pos 0 ≤ℤ v
+    by : (t u : Bool) → below v (pos 0) ≡ u → ◌≡◌ {A = Result ⊤ Fault} (first t (Err Above) (first u (Err Below) (Ok tt))) (Ok tt) → pos 0 ≤ℤ v
     by t false q e = not_below_is_le v (pos 0) q
     by true true q e = let z : ◌≡◌ {A = ℕ} 0 1 = cc in absurd (omega arith)
     by false true q e = let z : ◌≡◌ {A = ℕ} 0 1 = cc in absurd (omega arith)

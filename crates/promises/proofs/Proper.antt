@@ -15,7 +15,7 @@ use Rattle.dictionary.specs.Names.{configured}
 use Rattle.dictionary.specs.Unit.{unit_size}
 use Rattle.dictionary.specs.declared.types.Range.{Range}
 use Rattle.dictionary.proofs.naming.NameLaws as Names
-use Rattle.entries.specs.Judge.{in_range, is_good}
+use Rattle.entries.specs.Judge.{in_range}
 use Rattle.entries.specs.Valid.{Valid}
 use Rattle.records.specs.Layout.{Listed, listed, size, entry, extent, record_of, records, image_of}
 use Rattle.records.specs.Walk.{size_in, index_in, sub_in, data_in, fits, values, valued, sized, decoded, and_then, behind, walked, taken_in}
@@ -31,7 +31,7 @@ use Rattle.promises.specs.Restoring.{InPlace, Complete, Proper, Holds}
 use Rattle.promises.proofs.RecordFrames.{bytes_join}
 use Rattle.promises.proofs.Running.{sizes}
 use Rattle.promises.proofs.Slots.{own_range}
-use Rattle.std.specs.Prelude.{Result, Ok, Err, ⊤}
+use Rattle.std.specs.Prelude.{Result, Ok, Err, is_ok, ⊤}
 use Rattle.records.specs.declared.types.Refusal.{Refusal}
 
 -- ---- records in place
@@ -109,7 +109,7 @@ module _ {image : List ℕ} (c : Complete image) where
 
   -- a proper one is good
   pub proper_good : Valid (configuration_in image) → reading image ≡ Ok tt
-  unfolding configuration_in fits is_good
+  unfolding configuration_in fits
   proper_good v =
       accepts image (record {
         long = long;
@@ -122,7 +122,7 @@ module _ {image : List ℕ} (c : Complete image) where
       })
     where
       inside : (k : ℕ) → k < configured → fits (entry listed k) (get_or (configuration_in image) k 0) ≡ true
-      inside k l = ap (λ (r : Range). is_good (in_range r (get_or (configuration_in image) k 0))) (own_range k l) ∙ ap is_good (v.ranged k l)
+      inside k l = ap (λ (r : Range). is_ok (in_range r (get_or (configuration_in image) k 0))) (own_range k l) ∙ ap is_ok (v.ranged k l)
 
 pub good : {image : List ℕ} → Proper image → reading image ≡ Ok tt
 good p = proper_good p.complete p.valid

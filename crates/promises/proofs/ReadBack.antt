@@ -9,7 +9,8 @@ use lib.Seq.{length-take-le}
 use Rattle.numbers.specs.Choice.{first}
 use Rattle.dictionary.specs.Names.{find}
 use Rattle.dictionary.proofs.naming.Sought.{still_sought}
-use Rattle.dictionary.specs.declared.types.Found.TheVariants.{At}
+use Rattle.std.specs.Prelude.{Ok}
+use Rattle.dictionary.specs.declared.types.Named.TheVariants.{At}
 use Rattle.dictionary.specs.Unit.{unit_size, unticked}
 use Rattle.dictionary.proofs.naming.NameLaws.{counted}
 use Rattle.dictionary.proofs.Unticked.{words_stay}
@@ -40,7 +41,7 @@ module _ (words frame : List ℕ) (slot word : ℕ) (a : Accepted words frame sl
       ∙ ap (λ (n : ℕ). take (size_of slot) (drop 4 frame) ++ replicate (4 - n) 0) long
 
   module _ (l : length words ≡ unit_size) (query : List ℕ) (eight : length query ≡ 8) (c : get_or query 0 0 ≡ 0x40) (n : name_in query ≡ name_in frame) where
-    same_name : find (index_in query) (sub_in query) ≡ At slot
+    same_name : find (index_in query) (sub_in query) ≡ Ok (At slot)
     unfolding index_in sub_in name_in
     same_name = ap (λ (m : List ℕ). find (little (get_or m 0 0 ∷ get_or m 1 0 ∷ [])) (get_or m 2 0)) n ∙ a.found
 

@@ -13,7 +13,8 @@ use Rattle.numbers.specs.Choice.{first}
 use Rattle.dictionary.specs.Names.{find, configured}
 use Rattle.dictionary.proofs.naming.Sought.{still_sought}
 use Rattle.dictionary.specs.Rows.{width}
-use Rattle.dictionary.specs.declared.types.Found.TheVariants.{At}
+use Rattle.std.specs.Prelude.{Ok}
+use Rattle.dictionary.specs.declared.types.Named.TheVariants.{At}
 use Rattle.dictionary.specs.declared.types.Kind.{Kind}
 use Rattle.dictionary.specs.declared.types.Kind.TheVariants.{Unsigned8, Integer16, Unsigned16, Real32, Unsigned32}
 use Rattle.entries.specs.Judge.{judged}
@@ -122,11 +123,11 @@ module _ (e : Listed) (rest : List ℕ) (r : Right e rest) where
   commanded = ap command_of command_is ∙ commands e.range.kind
 
   -- it is judged as a write of the record's data to the slot that has its name
-  pub answered : (slot : ℕ) → find e.index e.sub ≡ At slot → slot < configured → size_of slot ≡ size e → (words : List ℕ) (room : ℕ) → 8 ≤ room
+  pub answered : (slot : ℕ) → find e.index e.sub ≡ Ok (At slot) → slot < configured → size_of slot ≡ size e → (words : List ℕ) (room : ℕ) → 8 ≤ room
       → answer words (frame_of_record rest) room ≡ stored slot (records.data_in (size e) rest) (judged words slot (records.data_in (size e) rest))
   unfolding size length_of
   answered slot found below own words room h =
       sym (spoken words (frame_of_record rest) room eight h (λ a. (no_abort e.range.kind).1 (sym command_is ∙ a)))
-      ∙ sym (a_write words (frame_of_record rest) (Write (Told (size e))) (sym commanded) e.index e.sub (At slot) (sym index_is) (sym sub_is) (sym (still_sought words e.index e.sub slot found (can_be_written slot below))) (Told (size e)) refl)
+      ∙ sym (a_write words (frame_of_record rest) (Write (Told (size e))) (sym commanded) e.index e.sub (Ok (At slot)) (sym index_is) (sym sub_is) (sym (still_sought words e.index e.sub slot found (can_be_written slot below))) (Told (size e)) refl)
       ∙ sym (in_full words (frame_of_record rest) (Told (size e)) slot (can_be_written slot below) (size e) (size e) (sym own) refl refl (records.data_in (size e) rest) (sym data_is))
       ∙ configured_through slot (records.data_in (size e) rest) below _

@@ -17,15 +17,18 @@ use Rattle.entries.proofs.Configuration.{can_be_written}
 use Rattle.dictionary.specs.Rows.{width}
 use Rattle.dictionary.specs.Unit.{unit_size}
 use Rattle.dictionary.specs.declared.types.Kind.{Kind}
-use Rattle.dictionary.specs.declared.types.Found.{Found}
-use Rattle.dictionary.specs.declared.types.Found.TheVariants as found
+use Rattle.std.specs.Prelude.{Result, Ok, Err, ⊤}
+use Rattle.dictionary.specs.declared.types.Named.{Named}
+use Rattle.dictionary.specs.declared.types.Named.TheVariants.{Count, At}
+use Rattle.dictionary.specs.declared.types.Missing.{Missing}
+use Rattle.dictionary.specs.declared.types.Missing.TheVariants as missing
 use Rattle.dictionary.proofs.naming.NameLaws.{counted, found_below}
 use Rattle.dictionary.proofs.Unticked.{forgets_only, words_stay, forgotten}
 use Rattle.dictionary.proofs.OneEach.{names_apart}
 use Rattle.entries.specs.Judge.{judged}
 use Rattle.entries.specs.Valid.{Valid}
-use Rattle.entries.specs.declared.types.Verdict.{Verdict}
-use Rattle.entries.specs.declared.types.Verdict.TheVariants as verdict
+use Rattle.entries.specs.declared.types.Fault.{Fault}
+use Rattle.entries.specs.declared.types.Fault.TheVariants as fault
 use Rattle.roles.specs.Values.{range_of}
 use Rattle.entries.proofs.Start.{valid_at_start}
 use Rattle.sdo.specs.Answers.{size_of, reading, stored, unclear, offered, refused, length_of, writing, obeyed, silent, answer}
@@ -71,7 +74,7 @@ that_one_entry unit frame room slot word e =
     let a = accepted unit frame room slot word e in
     record {
       own = a.found;
-      others = λ index sub other f different. words_stay (set unit slot word) other (found_below index sub (found.At other) (sym f)) ∙ get_or-set_other unit slot other word 0 (λ q. different (names_apart index sub (index_in frame) (sub_in frame) slot (f ∙ ap found.At q) a.found));
+      others = λ index sub other f different. words_stay (set unit slot word) other (found_below index sub (Ok (At other)) (sym f)) ∙ get_or-set_other unit slot other word 0 (λ q. different (names_apart index sub (index_in frame) (sub_in frame) slot (f ∙ ap (λ (n : ℕ). Ok (At n)) q) a.found));
       remembered = λ k h unmarked. forgets_only (set unit slot word) k unmarked ∙ get_or-set_other unit slot k word 0 (λ q. omega (arith, a.below, counted));
       forgets = λ size. forgotten (set unit slot word) (length-set unit slot word ∙ size);
     }
@@ -127,19 +130,19 @@ never_for_its_length unit rest room a e =
     either : (test : Bool) (x y : Answer) → clear x ≡ true → clear y ≡ true → clear (first test x y) ≡ true
     either test x y p q = chosen (λ r. clear r ≡ true) test x y (λ t. p) (λ t. q)
 
-    by_verdict : (slot word : ℕ) (v : Verdict) → clear (stored slot word v) ≡ true
-    by_verdict slot word verdict.Good = refl
-    by_verdict slot word verdict.NotFinite = refl
-    by_verdict slot word verdict.Above = refl
-    by_verdict slot word verdict.Below = refl
-    by_verdict slot word verdict.ChainUp = refl
-    by_verdict slot word verdict.ChainDown = refl
+    by_verdict : (slot word : ℕ) (v : Result ⊤ Fault) → clear (stored slot word v) ≡ true
+    by_verdict slot word (Ok x) = refl
+    by_verdict slot word (Err fault.NotFinite) = refl
+    by_verdict slot word (Err fault.Above) = refl
+    by_verdict slot word (Err fault.Below) = refl
+    by_verdict slot word (Err fault.ChainUp) = refl
+    by_verdict slot word (Err fault.ChainDown) = refl
 
-    by_name : (f : Found) → clear (writing unit (0x22 ∷ rest) Untold f) ≡ true
-    by_name found.NoIndex = refl
-    by_name found.NoSub = refl
-    by_name (found.Count n) = refl
-    by_name (found.At slot) =
+    by_name : (f : Result Named Missing) → clear (writing unit (0x22 ∷ rest) Untold f) ≡ true
+    by_name (Err missing.Index) = refl
+    by_name (Err missing.Sub) = refl
+    by_name (Ok (Count n)) = refl
+    by_name (Ok (At slot)) =
         either (not (ltb slot writable)) (Aborted abort.ReadOnly) _ refl
         (rw (le-ltb (size_of slot) (size_of slot) (omega arith))
         (either (unclear slot (data_in (size_of slot) (0x22 ∷ rest))) (Aborted abort.NotClear) _ refl (by_verdict slot _ (judged unit slot (data_in (size_of slot) (0x22 ∷ rest))))))
@@ -152,7 +155,7 @@ unfolding answer obeyed reading writing offered
 decided_by_configuration words other frame room slot same f h =
     ap (first (silent frame room) Silent) (by (command_of (get_or frame 0 0)))
   where
-    there : (unit : List ℕ) → sought unit (index_in frame) (sub_in frame) ≡ found.At slot
+    there : (unit : List ℕ) → sought unit (index_in frame) (sub_in frame) ≡ Ok (At slot)
     there unit = still_sought unit (index_in frame) (sub_in frame) slot f (can_be_written slot h)
 
     by : (c : Command) → obeyed words frame c ≡ obeyed other frame c

@@ -18,7 +18,7 @@ use Rattle.dictionary.specs.Rows.{width}
 use Rattle.dictionary.specs.Unit.{signals_at, runs_at, flags_at, before_at, ticked_at, unit_size, unticked}
 use Rattle.roles.specs.Chains.{chains, upper_in, lower_in, upper_of, lower_of}
 use Rattle.roles.specs.Values.{range_of, starts, at_start}
-use Rattle.entries.specs.Judge.{number_of, finite, within, in_range, held, past_upper, past_lower, in_order, before, judged}
+use Rattle.entries.specs.Judge.{number_of, finite, within, in_range, held, past_upper, past_lower, in_order, judged}
 use Rattle.entries.proofs.Start.{valid_at_start}
 use Rattle.sdo.specs.Answers.{size_of, stored, unclear, offered, length_of, writing, obeyed, silent, answer}
 use Rattle.sdo.specs.Frames.{index_in, sub_in, name_in, data_in, command_of, code, reply, reply_to}
@@ -60,7 +60,7 @@ unfolding every bytes
 all_bytes = of_bytes (downward point) refl
 
 written : run (map write (downward point)) at_start ≡ moved
-unfolding moved run happens after unticked words signals_at runs_at flags_at before_at ticked_at unit_size slot_of first below twos signed16 find hidden sought writable width chains upper_in lower_in upper_of lower_of number_of finite within in_range held past_upper past_lower in_order before judged range_of starts at_start size_of stored unclear offered length_of writing obeyed silent answer little bytes index_in sub_in data_in command_of
+unfolding moved run happens after unticked words signals_at runs_at flags_at before_at ticked_at unit_size slot_of first below twos signed16 find hidden sought writable width chains upper_in lower_in upper_of lower_of number_of finite within in_range held past_upper past_lower in_order judged range_of starts at_start size_of stored unclear offered length_of writing obeyed silent answer little bytes index_in sub_in data_in command_of
 written = refl
 
 sound : Sound moved
@@ -97,7 +97,7 @@ unfolding the_list flat_map frames_in frames_from frame_of_record write_command 
 frames_computed = refl
 
 upward_refused : reply_to (point 1 500) (answer at_start (point 1 500) 8) ≡ 0x80 ∷ 0x15 ∷ 0x30 ∷ 0x01 ∷ 0x31 ∷ 0x00 ∷ 0x09 ∷ 0x06 ∷ []
-unfolding first below twos signed16 find hidden sought writable width chains upper_in lower_in upper_of lower_of number_of finite within in_range held past_upper past_lower in_order before judged range_of starts at_start size_of stored unclear offered length_of writing obeyed silent answer little bytes index_in sub_in name_in data_in command_of code reply reply_to
+unfolding first below twos signed16 find hidden sought writable width chains upper_in lower_in upper_of lower_of number_of finite within in_range held past_upper past_lower in_order judged range_of starts at_start size_of stored unclear offered length_of writing obeyed silent answer little bytes index_in sub_in name_in data_in command_of code reply reply_to
 upward_refused = refl
 
 pub out_of_the_trap : OutOfTheTrap

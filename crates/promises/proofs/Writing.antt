@@ -21,7 +21,7 @@ use Rattle.entries.specs.Valid.{Valid}
 use Rattle.roles.specs.Values.{range_of}
 use Rattle.roles.specs.declared.types.Link.{Link}
 use Rattle.roles.specs.declared.types.Link.TheVariants.{Free, Loose, Strict}
-use Rattle.entries.specs.declared.types.Verdict.TheVariants.{Good}
+use Rattle.std.specs.Prelude.{Ok}
 use Rattle.entries.proofs.Configuration.{in_unit}
 use Rattle.entries.proofs.Neighbours.{near, another, is_another, upper_another, back_down, turned, both_ways, upper_same}
 use Rattle.sdo.specs.Answers.{size_of}
@@ -88,7 +88,7 @@ module _ (words frame : List ℕ) (slot word : ℕ) (a : Accepted words frame sl
     still_valid b v =
         record {
           sized = at_all (λ k. get_or (set words slot word) k 0 < 256 ^ width (range_of k).kind) (λ h. rw there (of_own_size b)) (λ k h n. rw (elsewhere k n) (v.sized k h));
-          ranged = at_all (λ k. in_range (range_of k) (get_or (set words slot word) k 0) ≡ Good) (λ h. rw there (fitting words slot word a.good).inside) (λ k h n. rw (elsewhere k n) (v.ranged k h));
+          ranged = at_all (λ k. in_range (range_of k) (get_or (set words slot word) k 0) ≡ Ok tt) (λ h. rw there (fitting words slot word a.good).inside) (λ k h n. rw (elsewhere k n) (v.ranged k h));
           linked = at_all (λ k. past_upper (set words slot word) (upper_of k) (held (set words slot word) k) ≡ false) own_link (other_link v);
         }
       where

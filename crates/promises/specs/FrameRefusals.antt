@@ -1,15 +1,16 @@
 -- "Bad input meets its listed refusal", of frames: the table of "Frames" in the paper's rows and order. The first row that applies answers; if none does, the frame is good.
 -- Assumes nothing.
-use Rattle.std.specs.Prelude.{ℕ, Bool, true, false, not, ◌&&◌, ◌||◌, ◌≡◌, List, [], ◌∷◌, map, eqb, ltb, length, get_or}
+use Rattle.std.specs.Prelude.{ℕ, Bool, true, false, not, ◌&&◌, ◌||◌, ◌≡◌, List, [], ◌∷◌, map, eqb, ltb, length, get_or, Result, Ok, Err}
 use Rattle.numbers.specs.Choice.{first}
 use Rattle.numbers.specs.Order.{below}
 use Rattle.numbers.specs.Signed.{signed16}
 use Rattle.dictionary.specs.Names.{find, slot_found, hidden, writable}
 use Rattle.dictionary.specs.Rows.{width}
-use Rattle.dictionary.specs.declared.types.Found.{Found}
-use Rattle.dictionary.specs.declared.types.Found.TheVariants.{NoIndex, NoSub, Count, At}
+use Rattle.dictionary.specs.declared.types.Named.{Named}
+use Rattle.dictionary.specs.declared.types.Named.TheVariants.{Count, At}
+use Rattle.dictionary.specs.declared.types.Missing.{Missing}
+use Rattle.dictionary.specs.declared.types.Missing.TheVariants as missing
 use Rattle.roles.specs.Chains.{upper_of, lower_of}
-use Rattle.roles.specs.Roles.{chosen}
 use Rattle.roles.specs.Values.{range_of}
 use Rattle.entries.specs.Judge.{number_of, finite, past_upper, past_lower}
 use Rattle.sdo.specs.Answers.{unclear, reading, answer}
@@ -17,6 +18,11 @@ use Rattle.sdo.specs.Frames.{index_in, sub_in, data_in, code}
 use Rattle.sdo.specs.declared.types.Abort.TheVariants as abort
 use Rattle.sdo.specs.declared.types.Answer.{Answer}
 use Rattle.sdo.specs.declared.types.Answer.TheVariants.{Silent, Aborted, Value, Written}
+
+-- what a table of numbers has for a key, or else the last
+unfoldable pub chosen : {A : Type 0} → List (ℕ × A) → A → ℕ → A
+chosen [] other key = other
+chosen (p ∷ ps) other key = first (eqb key p.0) p.1 (chosen ps other key)
 
 -- the answer of the first row that applies, or else the last
 unfoldable pub first_match : {A : Type 0} → List (Bool × A) → A → A
@@ -29,31 +35,31 @@ unfoldable pub bytes_written : ℕ → ℕ → ℕ
 bytes_written own command = chosen ((0x23, 4) ∷ (0x27, 3) ∷ (0x2B, 2) ∷ (0x2F, 1) ∷ (0x22, own) ∷ []) 0 command
 
 -- the bytes of the type of what a name stands for
-unfoldable pub own_bytes : Found → ℕ
+unfoldable pub own_bytes : Result Named Missing → ℕ
 own_bytes name = width (range_of (slot_found name)).kind
 
 -- what a name stands for may be nothing: no object has the index, or the object no such sub
-unfoldable pub unknown_index : Found → Bool
-unknown_index NoIndex = true
-unknown_index NoSub = false
-unknown_index (Count n) = false
-unknown_index (At slot) = false
+unfoldable pub unknown_index : Result Named Missing → Bool
+unknown_index (Err missing.Index) = true
+unknown_index (Err missing.Sub) = false
+unknown_index (Ok (Count n)) = false
+unknown_index (Ok (At slot)) = false
 
-unfoldable pub unknown_sub : Found → Bool
-unknown_sub NoIndex = false
-unknown_sub NoSub = true
-unknown_sub (Count n) = false
-unknown_sub (At slot) = false
+unfoldable pub unknown_sub : Result Named Missing → Bool
+unknown_sub (Err missing.Index) = false
+unknown_sub (Err missing.Sub) = true
+unknown_sub (Ok (Count n)) = false
+unknown_sub (Ok (At slot)) = false
 
 -- "sub 0 is the largest sub-index (UNSIGNED8, read only)"; the slots of the configuration, of 2500h and of 1003h:0 come first
-unfoldable pub read_only : Found → Bool
-read_only NoIndex = false
-read_only NoSub = false
-read_only (Count n) = true
-read_only (At slot) = not (ltb slot writable)
+unfoldable pub read_only : Result Named Missing → Bool
+read_only (Err missing.Index) = false
+read_only (Err missing.Sub) = false
+read_only (Ok (Count n)) = true
+read_only (Ok (At slot)) = not (ltb slot writable)
 
 -- rows 3 to 9, of what a name stands for, whether it is of 1003h and above the number kept, and the bytes that are written to it, so many, as one number
-unfoldable pub name_rows : List ℕ → Found → Bool → ℕ → ℕ → List (Bool × Answer)
+unfoldable pub name_rows : List ℕ → Result Named Missing → Bool → ℕ → ℕ → List (Bool × Answer)
 name_rows unit name above size word =
     let write = ltb 0 size in
     let slot = slot_found name in

@@ -1,10 +1,10 @@
 -- What is promised of frames.
 -- Assumes nothing.
-use Rattle.std.specs.Prelude.{ℕ, ◌-◌, ◌<◌, ◌≤◌, ◌≡◌, List, ◌∷◌, ◌++◌, length, get_or, take, drop, replicate}
+use Rattle.std.specs.Prelude.{ℕ, ◌-◌, ◌<◌, ◌≤◌, ◌≡◌, List, ◌∷◌, ◌++◌, length, get_or, take, drop, replicate, Ok}
 use Rattle.octets.specs.Little.{bytes, Bytes}
 use Rattle.dictionary.specs.Names.{configured, words, find}
 use Rattle.dictionary.specs.Unit.{ticked_at, unit_size}
-use Rattle.dictionary.specs.declared.types.Found.TheVariants.{At}
+use Rattle.dictionary.specs.declared.types.Named.TheVariants.{At}
 use Rattle.entries.specs.Valid.{Valid}
 use Rattle.roles.specs.Values.{at_start}
 use Rattle.sdo.specs.Answers.{size_of, answer}
@@ -30,8 +30,8 @@ FirstEightOnly =
 
 -- "An accepted write changes that one entry": no other name's word, and nothing that ticks remember behind the words but for the mark that tells of a tick
 pub record ChangesOnly (unit frame : List ℕ) (slot word : ℕ) : Type 0 where
-  pub own : find (index_in frame) (sub_in frame) ≡ At slot
-  pub others : (index sub other : ℕ) → find index sub ≡ At other → ((index ≡ index_in frame) × (sub ≡ sub_in frame) → ⊥)
+  pub own : find (index_in frame) (sub_in frame) ≡ Ok (At slot)
+  pub others : (index sub other : ℕ) → find index sub ≡ Ok (At other) → ((index ≡ index_in frame) × (sub ≡ sub_in frame) → ⊥)
       → get_or (after unit (Written slot word)) other 0 ≡ get_or unit other 0
   pub remembered : (k : ℕ) → words ≤ k → (k ≡ ticked_at → ⊥) → get_or (after unit (Written slot word)) k 0 ≡ get_or unit k 0
   pub forgets : length unit ≡ unit_size → get_or (after unit (Written slot word)) ticked_at 0 ≡ 0
@@ -56,7 +56,7 @@ ReadsBack =
 -- "command 22h .. size not told. The length is then the entry's own, the first bytes count and the rest is ignored": it is answered as the write with the same bytes that tells that length
 abbrev pub SizeNotTold : Type 0
 SizeNotTold =
-    (unit rest : List ℕ) (room slot : ℕ) → find (index_in (0x22 ∷ rest)) (sub_in (0x22 ∷ rest)) ≡ At slot
+    (unit rest : List ℕ) (room slot : ℕ) → find (index_in (0x22 ∷ rest)) (sub_in (0x22 ∷ rest)) ≡ Ok (At slot)
     → answer unit (0x22 ∷ rest) room ≡ answer unit (write_command (size_of slot) ∷ rest) room
 
 -- "order 2 no longer covers 22h; order 6 never arises for it", whatever it names
@@ -76,5 +76,5 @@ abbrev pub DecidedByConfiguration : Type 0
 DecidedByConfiguration =
     (unit other frame : List ℕ) (room slot : ℕ)
     → ((k : ℕ) → k < configured → get_or unit k 0 ≡ get_or other k 0)
-    → find (index_in frame) (sub_in frame) ≡ At slot → slot < configured
+    → find (index_in frame) (sub_in frame) ≡ Ok (At slot) → slot < configured
     → answer unit frame room ≡ answer other frame room

@@ -7,25 +7,29 @@ use Prim.Native.Nat.{ℕ, ◌+◌, ◌%◌, ◌<◌, ◌≤◌, zero-le}
 use native.Mathlib.Omega.{arith}
 use lib.Dec.{eqb, ltb}
 use lib.ListN.{length, get_or, take, drop}
-use borrow.Author.Tests.{lt-ltb, le-ltb, eq-eqb, ne_eqb, ltb-true}
+use borrow.Author.Tests.{lt-ltb, le-ltb, eq-eqb, ne_eqb}
 use Rattle.octets.specs.Little.{little}
 use Rattle.octets.proofs.little.Parts.{placed, part}
 use Rattle.numbers.specs.Choice.{first}
 use Rattle.dictionary.specs.Rows.{width, u8}
 use Rattle.dictionary.specs.declared.types.Range.{Range}
-use Rattle.dictionary.proofs.Tabulate.{tabulate, agree}
+use Rattle.dictionary.proofs.Tabulate.{tabulate}
 use Rattle.dictionary.specs.declared.types.Kind.{Kind}
 use Rattle.dictionary.specs.declared.types.Kind.TheVariants.{Unsigned8, Integer16, Unsigned16, Real32, Unsigned32}
 use Rattle.numbers.specs.Order.{below}
-use Rattle.entries.specs.Judge.{number_of, finite, within, in_range, is_good}
-use Rattle.entries.specs.declared.types.Verdict.TheVariants.{Good, Above, Below}
+use Rattle.entries.specs.Judge.{number_of, finite, within, in_range}
+use Rattle.std.specs.Prelude.{Option, Some, None, Ok, Err, is_ok}
+use Rattle.entries.specs.declared.types.Fault.TheVariants.{Above, Below}
 use Rattle.entries.proofs.KeyLaws.{whole_good}
-use Rattle.roles.specs.Roles.{ranged, ranges, chosen}
+use Rattle.roles.specs.Roles.{ranged}
+use Rattle.roles.specs.declared.types.Role.{Role}
+use Rattle.roles.specs.declared.types.Role.TheVariants.{Whole}
+use Rattle.roles.proofs.Cases.{nth, at_place}
+use Rattle.records.specs.declared.rows.Row.{Row}
 use Rattle.records.specs.Layout.{Listed, size}
 use Rattle.records.specs.Rows.{role_at, entry_at, greatest}
 use Rattle.records.specs.Walk.{index_in, sub_in, size_in, data_in, data_there, fits, valued, sized, decoded}
 use Rattle.records.specs.declared.types.Refusal.TheVariants.{EndedEarly, NotNext, WrongSize, OutOfRange}
-use Rattle.std.specs.Prelude.{Ok, Err}
 
 -- ---- the parts
 
@@ -65,63 +69,55 @@ is_there kind rest {n} e h = rw (le-ltb (length rest) (7 + n) h, e) (go kind)
 
 -- ---- the entry of a row's sub, by its role
 
-module _ (row sub : ℕ) {role : ℕ} (q : role ≡ role_at row sub) where
+module _ (row : Row) (sub : ℕ) {role : Role} (q : role ≡ role_at row sub) where
   pub same_size : {n : ℕ} → n ≡ width (ranged role).kind → n ≡ size (entry_at row sub)
   unfolding size entry_at
-  same_size w = w ∙ ap (λ (r : ℕ). width (ranged r).kind) q
+  same_size w = w ∙ ap (λ (r : Role). width (ranged r).kind) q
 
-  -- no row holds an UNSIGNED32
-  pub no_long : role ≡ 31 → ⊥
-  unfolding role_at first
-  no_long e = small (ltb (row % 0x100) 31) refl (sym e ∙ q)
-    where
-      rest : ℕ
-      rest = first (eqb sub 5) 5 (first (eqb (sub % 2) 1) 6 7)
-
-      low : (a b : Bool) → ◌≡◌ {A = ℕ} 31 (first a 5 (first b 6 7)) → ⊥
-      low true b p = omega arith
-      low false true p = omega arith
-      low false false p = omega arith
-
-      small : (t : Bool) → ltb (row % 0x100) 31 ≡ t → ◌≡◌ {A = ℕ} 31 (first t (row % 0x100) rest) → ⊥
-      small true l p = let m = ltb-true (row % 0x100) 31 l in omega arith
-      small false l p = low (eqb sub 5) (eqb (sub % 2) 1) p
-
-  pub same_fits : (word : ℕ) → is_good (in_range (ranged role) word) ≡ fits (entry_at row sub) word
+  pub same_fits : (word : ℕ) → is_ok (in_range (ranged role) word) ≡ fits (entry_at row sub) word
   unfolding fits entry_at
-  same_fits word = ap (λ (r : ℕ). is_good (in_range (ranged r) word)) q
+  same_fits word = ap (λ (r : Role). is_ok (in_range (ranged r) word)) q
 
--- up to the number's role, the range of a byte is from 0 to the greatest value
-small_ranges : tabulate 8 0 ranged ≡ tabulate 8 0 (λ role. (u8 0 (greatest role) 0).range)
-unfolding tabulate ranged ranges chosen first greatest
-small_ranges = refl
+-- the range of a byte that begins at 0 goes up to the greatest value
+range_by : Option ℕ → Range → Range
+range_by None range = range
+range_by (Some most) range = (u8 0 most 0).range
 
-module _ {role : ℕ} (small : role < 8) where
-  small_range : ranged role ≡ (u8 0 (greatest role) 0).range
-  small_range = agree 8 ranged (λ r. (u8 0 (greatest r) 0).range) (u8 0 0 0).range small_ranges role small
+small_ranges : (role : Role) → ranged role ≡ range_by (greatest role) (ranged role)
+unfolding tabulate nth first ranged greatest range_by
+small_ranges = at_place ranged (λ r. range_by (greatest r) (ranged r)) refl
+
+module _ (role : Role) {most : ℕ} (small : Some most ≡ greatest role) where
+  small_range : ranged role ≡ (u8 0 most 0).range
+  unfolding range_by
+  small_range = small_ranges role ∙ ap (λ o. range_by o (ranged role)) (sym small)
 
   pub small_size : 1 ≡ width (ranged role).kind
   unfolding width
   small_size = ap (λ (r : Range). width r.kind) (sym small_range)
 
-  small_fits : (word : ℕ) → is_good (in_range (ranged role) word) ≡ not (ltb (greatest role) (word % 0x100))
-  unfolding is_good in_range finite within number_of below first
-  small_fits word = rw small_range (go (ltb (greatest role) (word % 0x100)))
+  small_fits : (word : ℕ) → is_ok (in_range (ranged role) word) ≡ not (ltb most (word % 0x100))
+  unfolding in_range finite within number_of below first
+  small_fits word = rw small_range (go (ltb most (word % 0x100)))
     where
-      go : (b : Bool) → is_good (first b Above (first (ltb (word % 0x100) 0) Below Good)) ≡ not b
+      go : (b : Bool) → is_ok (first b (Err Above) (first (ltb (word % 0x100) 0) (Err Below) (Ok (tt {0})))) ≡ not b
       go true = refl
       go false = rw (le-ltb (word % 0x100) 0 zero-le)
 
-  pub small_unfit : {g : ℕ} → g ≡ greatest role → (word : ℕ) → g < word % 0x100 → false ≡ is_good (in_range (ranged role) word)
-  small_unfit {g} e word h = sym (small_fits word ∙ rw (← e, lt-ltb g (word % 0x100) h))
+  pub small_unfit : (word : ℕ) → most < word % 0x100 → false ≡ is_ok (in_range (ranged role) word)
+  small_unfit word h = sym (small_fits word ∙ rw (lt-ltb most (word % 0x100) h))
 
-  pub small_fit : {g : ℕ} → g ≡ greatest role → (word : ℕ) → word % 0x100 ≤ g → true ≡ is_good (in_range (ranged role) word)
-  small_fit {g} e word h = sym (small_fits word ∙ rw (← e, le-ltb g (word % 0x100) h))
+  pub small_fit : (word : ℕ) → word % 0x100 ≤ most → true ≡ is_ok (in_range (ranged role) word)
+  small_fit word h = sym (small_fits word ∙ rw (le-ltb most (word % 0x100) h))
 
--- from the whole number's role on, every word fits
-pub whole_fits : {role : ℕ} (word : ℕ) → 17 ≤ role → is_good (in_range (ranged role) word) ≡ true
-unfolding is_good
-whole_fits word h = ap is_good (sym (whole_good word h))
+-- every word fits in the whole range, and has two bytes
+pub whole_fits : {role : Role} (word : ℕ) → role ≡ Whole → true ≡ is_ok (in_range (ranged role) word)
+unfolding ranged
+whole_fits word e = rw e (ap is_ok (whole_good word))
+
+pub whole_size : {role : Role} → role ≡ Whole → 2 ≡ width (ranged role).kind
+unfolding ranged width
+whole_size e = rw e
 
 -- ---- the tests in their order
 

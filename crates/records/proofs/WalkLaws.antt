@@ -14,7 +14,8 @@ use Rattle.octets.specs.Little.{little}
 use Rattle.numbers.specs.Choice.{first}
 use Rattle.dictionary.specs.Names.{configured}
 use Rattle.records.specs.Layout.{Listed, size, listed, extent}
-use Rattle.records.specs.Rows.{row_from, row_of, entry_at, first_sub, last_sub}
+use Rattle.records.specs.Rows.{row_from, row_of, entry_at}
+use Rattle.records.specs.declared.rows.Row.{Row}
 use Rattle.records.specs.Walk.{index_in, sub_in, size_in, data_in, fits, valued, sized, decoded, behind, and_then, walked, taken_in}
 use Rattle.records.specs.declared.types.Refusal.{Refusal}
 use Rattle.records.specs.declared.types.Refusal.TheVariants.{EndedEarly, WrongCount, NotNext, WrongSize, OutOfRange}
@@ -111,7 +112,7 @@ takes_all (e ∷ es) rest {n} t = go (decoded e rest) refl (walked es (drop (7 +
 
 -- ---- a row, sub by sub
 
-module _ (row sub k : ℕ) (rest : List ℕ) where
+module _ (row : Row) (sub k : ℕ) (rest : List ℕ) where
   pub sub_taken : {n : ℕ} → decoded (entry_at row sub) rest ≡ Ok n
       → walked (row_from row sub (suc k)) rest ≡ behind n (walked (row_from row (suc sub) k) (drop n rest))
   unfolding walked row_from and_then
@@ -135,7 +136,7 @@ passed_on body rest {n} {whole} next h k e =
     let gone : length body - length rest + n ≡ length body - length (drop n rest) = omega arith in
     rw part (omega arith, e ∙ behind_twice _ _ _ ∙ ap (λ (m : ℕ). behind m (next (drop n rest))) gone)
 
-module _ (row last sub : ℕ) (body rest : List ℕ)
+module _ (row : Row) (last sub : ℕ) (body rest : List ℕ)
     (inv : walked (row_of row) body ≡ behind (length body - length rest) (walked (row_from row sub (suc last - sub)) rest)) where
   again : sub ≤ last → row_from row sub (suc last - sub) ≡ row_from row sub (suc (suc last - suc sub))
   again h = ap (row_from row sub) (omega arith)
@@ -161,43 +162,43 @@ module _ (row last sub : ℕ) (body rest : List ℕ)
       let none : suc last - sub ≡ 0 = omega arith in
       sym (inv ∙ ap (λ (m : ℕ). behind (length body - length rest) (walked (row_from row sub m) rest)) none ∙ ap Ok (add-zero (length body - length rest)))
 
-pub row_start : (row : ℕ) (body : List ℕ)
-    → walked (row_of row) body ≡ behind (length body - length body) (walked (row_from row (first_sub row) (suc (last_sub row) - first_sub row)) body)
+pub row_start : (row : Row) (body : List ℕ)
+    → walked (row_of row) body ≡ behind (length body - length body) (walked (row_from row row.first (suc row.last - row.first)) body)
 unfolding row_of
 row_start row body =
     let none : 0 ≡ length body - length body = omega arith in
-    sym (behind_none _) ∙ ap (λ (m : ℕ). behind m (walked (row_from row (first_sub row) (suc (last_sub row) - first_sub row)) body)) none
+    sym (behind_none _) ∙ ap (λ (m : ℕ). behind m (walked (row_from row row.first (suc row.last - row.first)) body)) none
 
 -- ---- all rows
 
-module _ (rows : List ℕ) (at : ℕ) (whole : Result ℕ Refusal) (body rest : List ℕ)
+module _ (rows : List Row) (at : ℕ) (whole : Result ℕ Refusal) (body rest : List ℕ)
     (inv : whole ≡ behind (length body - length rest) (walked (flat_map row_of (drop at rows)) rest)) where
-  next_row : at < length rows → flat_map row_of (drop at rows) ≡ row_of (get_or rows at 0) ++ flat_map row_of (drop (suc at) rows)
+  next_row : (none : Row) → at < length rows → flat_map row_of (drop at rows) ≡ row_of (get_or rows at none) ++ flat_map row_of (drop (suc at) rows)
   unfolding flat_map
-  next_row h = ap (flat_map row_of) (drop-cons rows at 0 h)
+  next_row none h = ap (flat_map row_of) (drop-cons rows at none h)
 
-  pub rows_refused : at < length rows → {why : Refusal} {w : Result ℕ Refusal} → w ≡ Err why → w ≡ walked (row_of (get_or rows at 0)) rest → w ≡ whole
+  pub rows_refused : (none : Row) → at < length rows → {why : Refusal} {w : Result ℕ Refusal} → w ≡ Err why → w ≡ walked (row_of (get_or rows at none)) rest → w ≡ whole
   unfolding behind
-  rows_refused h t d =
-      t ∙ sym (inv ∙ ap (λ (l : List Listed). behind (length body - length rest) (walked l rest)) (next_row h)
-      ∙ ap (behind (length body - length rest)) (then_refused (row_of (get_or rows at 0)) (flat_map row_of (drop (suc at) rows)) rest (sym d ∙ t)))
+  rows_refused none h t d =
+      t ∙ sym (inv ∙ ap (λ (l : List Listed). behind (length body - length rest) (walked l rest)) (next_row none h)
+      ∙ ap (behind (length body - length rest)) (then_refused (row_of (get_or rows at none)) (flat_map row_of (drop (suc at) rows)) rest (sym d ∙ t)))
 
-  pub rows_on : at < length rows → length rest ≤ length body → {n : ℕ} → walked (row_of (get_or rows at 0)) rest ≡ Ok n
+  pub rows_on : (none : Row) → at < length rows → length rest ≤ length body → {n : ℕ} → walked (row_of (get_or rows at none)) rest ≡ Ok n
       → (length (onward n rest) ≤ length body) × (whole ≡ behind (length body - length (onward n rest)) (walked (flat_map row_of (drop (at + 1) rows)) (onward n rest)))
-  rows_on h k {n} d =
+  rows_on none h k {n} d =
       let next : suc at ≡ at + 1 = omega arith in
-      let taken = then_taken (row_of (get_or rows at 0)) (flat_map row_of (drop (suc at) rows)) rest d in
+      let taken = then_taken (row_of (get_or rows at none)) (flat_map row_of (drop (suc at) rows)) rest d in
       passed_on body rest (walked (flat_map row_of (drop (at + 1) rows))) k taken.1
-      (rw (← next) (inv ∙ ap (λ (l : List Listed). behind (length body - length rest) (walked l rest)) (next_row h)
+      (rw (← next) (inv ∙ ap (λ (l : List Listed). behind (length body - length rest) (walked l rest)) (next_row none h)
       ∙ ap (behind (length body - length rest)) taken.0))
 
   pub rows_done : length rows ≤ at → Ok (length body - length rest) ≡ whole
   unfolding walked behind flat_map
   rows_done h =
-      sym (inv ∙ ap (λ (l : List ℕ). behind (length body - length rest) (walked (flat_map row_of l) rest)) (drop_of_length-le rows h)
+      sym (inv ∙ ap (λ (l : List Row). behind (length body - length rest) (walked (flat_map row_of l) rest)) (drop_of_length-le rows h)
       ∙ ap Ok (add-zero (length body - length rest)))
 
-pub rows_start : (es : List Listed) (rows body : List ℕ) → es ≡ flat_map row_of rows
+pub rows_start : (es : List Listed) (rows : List Row) (body : List ℕ) → es ≡ flat_map row_of rows
     → walked es body ≡ behind (length body - length body) (walked (flat_map row_of rows) body)
 rows_start es rows body e =
     let none : 0 ≡ length body - length body = omega arith in

@@ -1,10 +1,10 @@
 -- "Readings refuse, records in order": what bytes are as the records of some entries, one after the other.
 -- Assumes nothing.
-use Rattle.std.specs.Prelude.{ℕ, ◌+◌, Bool, not, ◌||◌, List, [], ◌∷◌, eqb, ltb, length, get_or, take, drop, Result, Ok, Err, ⊤}
+use Rattle.std.specs.Prelude.{ℕ, ◌+◌, Bool, not, ◌||◌, List, [], ◌∷◌, eqb, ltb, length, get_or, take, drop, Result, Ok, Err, ⊤, is_ok}
 use Rattle.octets.specs.Little.{little}
 use Rattle.numbers.specs.Choice.{first}
 use Rattle.dictionary.specs.Names.{configured}
-use Rattle.entries.specs.Judge.{in_range, is_good}
+use Rattle.entries.specs.Judge.{in_range}
 use Rattle.records.specs.Layout.{Listed, listed, size}
 use Rattle.records.specs.declared.types.Refusal.{Refusal}
 use Rattle.records.specs.declared.types.Refusal.TheVariants.{EndedEarly, WrongCount, NotNext, WrongSize, OutOfRange, OutOfOrder, LeftOver, NoRoom}
@@ -45,7 +45,7 @@ data_there n rest =
 
 -- a value may stand in its own range
 unfoldable pub fits : Listed → ℕ → Bool
-fits e word = is_good (in_range e.range word)
+fits e word = is_ok (in_range e.range word)
 
 -- "1 ended early (for a record's data: after 4)", "5 range or not finite"
 unfoldable pub valued : Listed → List ℕ → Result ℕ Refusal

@@ -6,6 +6,7 @@ ghost use mathlib.Core.List.{flat_map};
 ghost use Rattle.records.specs.Rows.{row_of};
 ghost use Rattle.records.specs.Walk.{walked, taken_in};
 
+use crate::rows::Row;
 use crate::taking::take_record;
 use crate::types::Refusal;
 use crate::walking::rows::ROWS;
@@ -13,13 +14,11 @@ use dictionary::slots::EC_VALUE;
 use octets::little::four_at;
 
 // The records of a row, one after the other.
-fn take_row(body: &[u8], row: u32) -> Result<usize, Refusal>
+fn take_row(body: &[u8], row: Row) -> Result<usize, Refusal>
     ensures { result ≡ walked (row_of row) body.now }
 {
-    let first = (row / 0x1000 % 0x10) as u8;
-    let last = (row / 0x100 % 0x10) as u8;
     let mut rest = body;
-    for sub in first..=last {
+    for sub in row.first..=row.last {
         let record = take_record(rest, row, sub);
         let Ok(n) = record else {
             return record;
@@ -30,7 +29,7 @@ fn take_row(body: &[u8], row: u32) -> Result<usize, Refusal>
 }
 
 // The records of some rows, one after the other.
-fn walk_rows(body: &[u8], rows: &[u32]) -> Result<usize, Refusal>
+fn walk_rows(body: &[u8], rows: &[Row]) -> Result<usize, Refusal>
     ensures { result ≡ walked (flat_map row_of rows.now) body.now }
 {
     let mut rest = body;

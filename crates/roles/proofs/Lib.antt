@@ -1,3 +1,4 @@
+pub mod Cases
 pub mod Once
 pub mod RoleLaws
 pub mod StartLaws

@@ -4,29 +4,33 @@ use Prim.Native.Nat.{ℕ, suc, ◌+◌, ◌-◌, ◌*◌, ◌<◌, ◌≤◌}
 use native.Mathlib.Decide.{dec_lt}
 use native.Mathlib.Omega.{arith}
 use mathlib.Core.Bool.{Bool, true, false}
-use mathlib.Core.List.{List, [], ◌∷◌, map}
+use mathlib.Core.List.{List, [], ◌∷◌}
 use mathlib.Core.Path.{◌≡◌, refl, sym, ap, ◌∙◌}
-use lib.Dec.{eqb}
+use lib.Dec.{eqb, ltb}
+use borrow.Author.Tests.{ltb-true}
 use lib.IntN.{nat_abs}
 use Rattle.numbers.specs.Choice.{first}
 use Rattle.dictionary.specs.declared.types.Kind.{Kind}
 use Rattle.dictionary.specs.declared.types.Kind.TheVariants.{Unsigned8, Integer16, Unsigned16, Real32, Unsigned32}
 use Rattle.dictionary.specs.declared.types.Range.{Range}
 use Rattle.dictionary.proofs.Tabulate.{tabulate, agree}
-use Rattle.roles.specs.Roles.{chosen, ranges, ranged, uppers, lowers, Holding, said, Told}
+use Rattle.roles.specs.Roles.{ranged, upper_by, lower_by, Holding, said, alone, Told}
+use Rattle.roles.specs.declared.types.Role.{Role}
+use Rattle.roles.specs.declared.types.Role.TheVariants as role
+use Rattle.roles.proofs.Cases.{nth, all, place, back, below, at_place}
 use Rattle.roles.specs.declared.types.Link.{Link}
 use Rattle.roles.specs.declared.types.Link.TheVariants.{Free, Loose, Strict}
 
 -- ---- a rule whose values, computed, are all different
 
-place : List ℕ → ℕ → ℕ
-place [] x = 0
-place (y ∷ ys) x = first (eqb y x) 0 (suc (place ys x))
+found : List ℕ → ℕ → ℕ
+found [] x = 0
+found (y ∷ ys) x = first (eqb y x) 0 (suc (found ys x))
 
-apart : (n : ℕ) (f : ℕ → ℕ) → tabulate n 0 (λ r. place (tabulate n 0 f) (f r)) ≡ tabulate n 0 (λ r. r) → {r s : ℕ} → r < n → s < n → f r ≡ f s → r ≡ s
+apart : (n : ℕ) (f : ℕ → ℕ) → tabulate n 0 (λ r. found (tabulate n 0 f) (f r)) ≡ tabulate n 0 (λ r. r) → {r s : ℕ} → r < n → s < n → f r ≡ f s → r ≡ s
 apart n f e {r} {s} h l q =
-    let back = agree n (λ k. place (tabulate n 0 f) (f k)) (λ k. k) 0 e in
-    sym (back r h) ∙ ap (place (tabulate n 0 f)) q ∙ back s l
+    let back = agree n (λ k. found (tabulate n 0 f) (f k)) (λ k. k) 0 e in
+    sym (back r h) ∙ ap (found (tabulate n 0 f)) q ∙ back s l
 
 -- ---- a number for a range, and one for a neighbour by how far it is from the slot
 
@@ -48,27 +52,34 @@ link_mark slot (Strict other) = 2 * (other + 17 - slot) + 1
 marked : ℕ → Holding → ℕ
 marked slot h = range_mark h.range + 10000000 * link_mark slot h.upper + 1000000000 * link_mark slot h.lower
 
--- what is chosen, marked
-chosen_mark : {A : Type 0} (f : A → ℕ) (ps : List (ℕ × A)) (other : A) (key : ℕ) → f (chosen ps other key) ≡ chosen (map (λ (p : ℕ × A). (p.0, f p.1)) ps) (f other) key
-unfolding chosen first
-chosen_mark f [] other key = refl
-chosen_mark {A} f (p ∷ ps) other key = go (eqb key p.0) (chosen_mark f ps other key)
-  where
-    go : (b : Bool) → f (chosen ps other key) ≡ chosen (map (λ (p : ℕ × A). (p.0, f p.1)) ps) (f other) key
-        → f (first b p.1 (chosen ps other key)) ≡ first b (f p.1) (chosen (map (λ (p : ℕ × A). (p.0, f p.1)) ps) (f other) key)
-    go true h = refl
-    go false h = h
-
 -- ---- the marks of the neighbours, in numbers alone
 
-upper_marks : List (ℕ × ℕ)
-upper_marks = (18, 36) ∷ (19, 36) ∷ (21, 59) ∷ (23, 43) ∷ (25, 51) ∷ (15, 51) ∷ (27, 51) ∷ (28, 58) ∷ (29, 2) ∷ []
+upper_mark : Role → ℕ
+upper_mark role.FirstX = 36
+upper_mark role.InnerX = 36
+upper_mark role.EcLow = 59
+upper_mark role.MathLow = 43
+upper_mark role.PvLow = 51
+upper_mark role.FvLow = 51
+upper_mark role.LineLow = 51
+upper_mark role.LineHigh = 58
+upper_mark role.SpanLow = 2
+upper_mark other = 0
 
-lower_marks : List (ℕ × ℕ)
-lower_marks = (19, 32) ∷ (20, 32) ∷ (22, 11) ∷ (24, 27) ∷ (26, 19) ∷ (16, 19) ∷ (27, 66) ∷ (28, 19) ∷ (30, 10) ∷ []
+lower_mark : Role → ℕ
+lower_mark role.InnerX = 32
+lower_mark role.LastX = 32
+lower_mark role.EcHigh = 11
+lower_mark role.MathHigh = 27
+lower_mark role.PvHigh = 19
+lower_mark role.FvHigh = 19
+lower_mark role.LineLow = 66
+lower_mark role.LineHigh = 19
+lower_mark role.SpanHigh = 10
+lower_mark other = 0
 
-role_mark : ℕ → ℕ
-role_mark role = range_mark (ranged role) + 10000000 * chosen upper_marks 0 role + 1000000000 * chosen lower_marks 0 role
+role_mark : Role → ℕ
+role_mark role = range_mark (ranged role) + 10000000 * upper_mark role + 1000000000 * lower_mark role
 
 module _ (slot : ℕ) (h : 16 ≤ slot) where
   above : (k : ℕ) → slot + k + 17 - slot ≡ k + 17
@@ -77,30 +88,30 @@ module _ (slot : ℕ) (h : 16 ≤ slot) where
   under : (k : ℕ) → k ≤ 16 → slot - k + 17 - slot ≡ 17 - k
   under k l = omega arith
 
-  uppers_are : map (λ (p : ℕ × Link). (p.0, link_mark slot p.1)) (uppers slot) ≡ upper_marks
-  unfolding uppers link_mark upper_marks
-  uppers_are = rw (above 1, above 12, above 4, above 8, under 16 (omega arith))
-
-  lowers_are : map (λ (p : ℕ × Link). (p.0, link_mark slot p.1)) (lowers slot) ≡ lower_marks
-  unfolding lowers link_mark lower_marks
-  lowers_are = rw (under 1 (omega arith), under 12 (omega arith), under 4 (omega arith), under 8 (omega arith), above 16)
-
   -- the mark of what a role says
-  said_mark : (role : ℕ) → marked slot (said role slot) ≡ role_mark role
-  unfolding said marked link_mark role_mark
-  said_mark role =
-      rw (chosen_mark (link_mark slot) (uppers slot) Free role, chosen_mark (link_mark slot) (lowers slot) Free role, uppers_are, lowers_are)
+  said_mark : (r : Role) → marked slot (said r slot) ≡ role_mark r
+  unfolding tabulate nth first said marked link_mark role_mark upper_by lower_by upper_mark lower_mark
+  said_mark = at_place (λ r. marked slot (said r slot)) role_mark
+      (rw (above 1, above 12, above 4, above 8, above 16, under 16 (omega arith), under 1 (omega arith), under 12 (omega arith), under 4 (omega arith), under 8 (omega arith)))
 
-near_start : {role slot : ℕ} → Told role slot → slot < 16 → role < 15
-near_start {role} {slot} t h = go (dec_lt role 15)
+-- the roles that no chain has come first
+alone_first : (r : Role) → ltb (place r) 15 ≡ alone r
+unfolding tabulate nth first place alone
+alone_first = at_place (λ r. ltb (place r) 15) alone refl
+
+near_start : {r : Role} {slot : ℕ} → Told r slot → slot < 16 → place r < 15
+near_start {r} {slot} t h = ltb-true (place r) 15 (alone_first r ∙ go (alone r) refl)
   where
-    go : Dec (role < 15) → role < 15
-    go (yes l) = l
-    go (no n) = let far = t.near (omega arith) in absurd (omega arith)
+    go : (b : Bool) → alone r ≡ b → b ≡ true
+    go true q = refl
+    go false q = let far = t.near q in absurd (omega arith)
+
+by_place : {r s : Role} → place r ≡ place s → r ≡ s
+by_place {r} {s} q = sym (back r) ∙ ap (λ k. nth k all) q ∙ back s
 
 -- far from the start all roles are told apart; a slot that is near it has one without neighbours, and the range tells
-pub role_once : {r s slot : ℕ} → Told r slot → Told s slot → r ≡ s
-unfolding tabulate place first role_mark range_mark kind_mark upper_marks lower_marks ranged ranges chosen said
+pub role_once : {r s : Role} {slot : ℕ} → Told r slot → Told s slot → r ≡ s
+unfolding tabulate found nth first role_mark range_mark kind_mark upper_mark lower_mark ranged said
 role_once {r} {s} {slot} p q = go (dec_lt slot 16)
   where
     same : said r slot ≡ said s slot
@@ -108,7 +119,9 @@ role_once {r} {s} {slot} p q = go (dec_lt slot 16)
 
     go : Dec (slot < 16) → r ≡ s
     go (yes h) =
-        apart 15 (λ role. range_mark (ranged role)) refl (near_start p h) (near_start q h) (ap (λ (h : Holding). range_mark h.range) same)
+        by_place (apart 15 (λ k. range_mark (ranged (nth k all))) refl (near_start p h) (near_start q h)
+        (ap (λ x. range_mark (ranged x)) (back r) ∙ ap (λ (h : Holding). range_mark h.range) same ∙ ap (λ x. range_mark (ranged x)) (sym (back s))))
     go (no n) =
         let h : 16 ≤ slot = omega arith in
-        apart 32 role_mark refl p.known q.known (sym (said_mark slot h r) ∙ ap (marked slot) same ∙ said_mark slot h s)
+        by_place (apart 32 (λ k. role_mark (nth k all)) refl (below r) (below s)
+        (ap role_mark (back r) ∙ sym (said_mark slot h r) ∙ ap (marked slot) same ∙ said_mark slot h s ∙ ap role_mark (sym (back s))))

@@ -1,13 +1,13 @@
 -- The role that the code tells of a slot is the table's, by one computed test over the slots between two bounds, which are those of the code's branches.
 -- Assumes nothing.
 use mathlib.Core.Path.{◌≡◌, refl, sym, ap, ◌∙◌}
-use mathlib.Core.Bool.{Bool, true, false, ◌&&◌, ◌||◌, and-eq-true_iff}
+use mathlib.Core.Bool.{Bool, true, false, true≢false, ◌&&◌, ◌||◌, and-eq-true_iff}
 use mathlib.Core.List.{List, [], ◌∷◌, ◌++◌, map}
 use Prim.Native.Nat.{ℕ, zero, suc, ◌+◌, ◌-◌, ◌%◌, ◌^◌, ◌<◌, ◌≤◌}
 use native.Mathlib.Omega.{arith}
 use lib.Dec.{eqb, ltb, leb}
 use lib.ListN.{get_or, take, drop, length-map, get_or-eq_default}
-use borrow.Author.Tests.{eq-eqb, eqb-true, lt-ltb, le-leb, le-ltb, leb-true, ltb-true, ne_eqb}
+use borrow.Author.Tests.{eq-eqb, eqb-true, lt-ltb, le-leb, leb-true, ltb-true, ne_eqb}
 use Rattle.numbers.specs.Choice.{first}
 use Rattle.dictionary.specs.Names.{Entry, entries, words}
 use Rattle.dictionary.specs.Rows.{u8}
@@ -16,7 +16,9 @@ use Rattle.dictionary.proofs.Apart.{Apart}
 use Rattle.dictionary.proofs.Sieve.{sieve, sift, sifted}
 use Rattle.roles.specs.Chains.{Neighbours, chains, upper_in, lower_in, upper_of, lower_of}
 use Rattle.roles.specs.Values.{range_of}
-use Rattle.roles.specs.Roles.{Holding, ranges, ranged, uppers, lowers, chosen, said, holding, Told}
+use Rattle.roles.specs.Roles.{Holding, ranged, upper_by, lower_by, said, holding, alone, Told}
+use Rattle.roles.specs.declared.types.Role.{Role}
+use Rattle.roles.specs.declared.types.Role.TheVariants.{Axis}
 use Rattle.roles.specs.declared.types.Link.TheVariants.{Free}
 
 -- the chains by runs of neighbours, each from two slots on: the same list, which the tests below look up without a name.
@@ -59,8 +61,8 @@ unfolding entries
 table = map (λ (e : Entry). e.value.range) entries
 
 -- what a role says of the slots from start to stop that a test chooses, and what the table holds there
-unfoldable pub told_when : ℕ → (ℕ → Bool) → ℕ → ℕ → List Holding
-unfolding sieve said ranged ranges uppers lowers chosen first
+unfoldable pub told_when : Role → (ℕ → Bool) → ℕ → ℕ → List Holding
+unfolding sieve said ranged upper_by lower_by first
 told_when role p start stop = sieve p (stop - start) start (said role)
 
 unfoldable pub held_in : List Neighbours → (ℕ → Bool) → ℕ → ℕ → List Holding
@@ -71,41 +73,36 @@ unfoldable pub held_when : (ℕ → Bool) → ℕ → ℕ → List Holding
 unfolding held_in runs
 held_when p start stop = held_in runs p start stop
 
--- a role is one of the 32, and one with neighbours is far from both ends
-unfoldable pub near : ℕ → ℕ → ℕ → Bool
-near role low high = ltb role 32 && (ltb role 15 || (leb 16 low && leb high 65536))
+-- a role that may have neighbours is far from both ends
+unfoldable pub near : Role → ℕ → ℕ → Bool
+unfolding alone
+near role low high = alone role || (leb 16 low && leb high 65536)
 
-one_of : (role low high : ℕ) → near role low high ≡ true → role < 32
+nearby : (role : Role) {low high slot : ℕ} → near role low high ≡ true → low ≤ slot → slot < high → alone role ≡ false → (16 ≤ slot) × (slot < 2 ^ 16)
 unfolding near
-one_of role low high e = ltb-true role 32 ((and-eq-true_iff (ltb role 32) (ltb role 15 || (leb 16 low && leb high 65536))).0 e).0
-
-nearby : {role low high slot : ℕ} → near role low high ≡ true → low ≤ slot → slot < high → 15 ≤ role → (16 ≤ slot) × (slot < 2 ^ 16)
-unfolding near
-nearby {role} {low} {high} e l h r =
-    let far = ((and-eq-true_iff (ltb role 32) (ltb role 15 || (leb 16 low && leb high 65536))).0 e).1 in
-    let both = (and-eq-true_iff (leb 16 low) (leb high 65536)).0 (rw (le-ltb role 15 r) at far) in
+nearby role {low} {high} e l h r =
+    let both = (and-eq-true_iff (leb 16 low) (leb high 65536)).0 (rw r at e) in
     let a = leb-true 16 low both.0 in
     let b = leb-true high 65536 both.1 in
     (omega arith, omega arith)
 
-when : {start stop role slot : ℕ} (p : ℕ → Bool) → start ≤ slot → slot < stop → p slot ≡ true → told_when role p start stop ≡ held_when p start stop → near role start stop ≡ true → Told role slot
+when : {start stop slot : ℕ} {role : Role} (p : ℕ → Bool) → start ≤ slot → slot < stop → p slot ≡ true → told_when role p start stop ≡ held_when p start stop → near role start stop ≡ true → Told role slot
 unfolding told_when held_when held_in holding range_of table upper_of lower_of
-when {start} {stop} {role} {slot} p l h t e n = record {
-  known = one_of role start stop n;
+when {start} {stop} {slot} {role} p l h t e n = record {
   holds = sifted p (said role) (joined runs) (u8 0 0 0).range start stop slot table e l h t
       ∙ ap (λ (ns : List Neighbours). joined ns slot (get_or table slot (u8 0 0 0).range)) (sym chains_run);
-  near = nearby n l h;
+  near = nearby role n l h;
 }
 
 abbrev pub any : ℕ → Bool
 any slot = true
 
-pub on : (role : ℕ) {low high slot : ℕ} → low ≤ slot → slot < high → told_when role any low high ≡ held_when any low high → near role low high ≡ true → Told role slot
+pub on : (role : Role) {low high slot : ℕ} → low ≤ slot → slot < high → told_when role any low high ≡ held_when any low high → near role low high ≡ true → Told role slot
 on role l h e n = when any l h refl e n
 
 -- ---- blocks: a slot is folded back to the first block, from `base` on and `per` entries long, and the code's branches tell of that
 
-module _ (role base per : ℕ) {start stop slot : ℕ} (l : start ≤ slot) (h : slot < stop) where
+module _ (role : Role) (base per : ℕ) {start stop slot : ℕ} (l : start ≤ slot) (h : slot < stop) where
   pub folded_from : {low : ℕ} → low ≤ base + (slot - base) % per
       → told_when role (λ s. leb low (base + (s - base) % per)) start stop ≡ held_when (λ s. leb low (base + (s - base) % per)) start stop → near role start stop ≡ true → Told role slot
   folded_from {low} a e n = when (λ s. leb low (base + (s - base) % per)) l h (le-leb low (base + (slot - base) % per) a) e n
@@ -159,17 +156,16 @@ unfoldable pub ends_at : ℕ → Bool
 unfolding words chains all_below
 ends_at bound = eqb words bound && all_below bound chains
 
-no_range : (slot : ℕ) → words ≤ slot → range_of slot ≡ ranged 0
-unfolding range_of words ranged ranges chosen first
+no_range : (slot : ℕ) → words ≤ slot → range_of slot ≡ ranged Axis
+unfolding range_of words ranged
 no_range slot h = get_or-eq_default (map (λ (e : Entry). e.value.range) entries) (u8 0 0 0).range {n = slot} (rw (length-map entries (λ (e : Entry). e.value.range)) h)
 
-pub past_all : {bound slot : ℕ} → bound ≤ slot → ends_at bound ≡ true → Told 0 slot
-unfolding ends_at said holding upper_of lower_of uppers lowers chosen first
+pub past_all : {bound slot : ℕ} → bound ≤ slot → ends_at bound ≡ true → Told Axis slot
+unfolding ends_at said holding upper_of lower_of upper_by lower_by alone
 past_all {bound} {slot} h e =
     let two = (and-eq-true_iff (eqb words bound) (all_below bound chains)).0 e in
     let w : words ≡ bound = eqb-true words bound two.0 in
     record {
-      known = omega arith;
       holds = rw (no_range slot (omega arith), no_upper bound slot h chains two.1, no_lower bound slot h chains two.1);
-      near = λ r. absurd (omega arith);
+      near = λ r. absurd (true≢false r);
     }

@@ -4,22 +4,27 @@ ghost use Rattle.dictionary.specs.Rows.{width};
 ghost use Rattle.roles.specs.Roles.{ranged};
 ghost use Rattle.roles.specs.Values.{range_of};
 
-use crate::telling::{LONG, REAL, role_of};
+use crate::telling::role_of;
+use crate::types::Role;
 
 // The bytes of a role's type.
-pub fn width_of(role: u8) -> u8
+pub fn width_of(role: Role) -> u8
     ensures { result ≡ width (ranged role).kind }
 {
-    if role == REAL {
-        return 4;
+    match role {
+        Role::Axis
+        | Role::Switch
+        | Role::Response
+        | Role::Digits
+        | Role::Operator
+        | Role::Comparison
+        | Role::Source
+        | Role::Number
+        | Role::Table
+        | Role::Byte => 1,
+        Role::Real | Role::Long => 4,
+        _ => 2,
     }
-    if role < REAL {
-        return 1;
-    }
-    if role == LONG {
-        return 4;
-    }
-    2
 }
 
 // The bytes of a slot's type. A slot past the last has the range 0..0.

@@ -15,20 +15,22 @@ use Rattle.dictionary.specs.Names.{slot_found, sought, words, writable}
 use Rattle.dictionary.specs.Unit.{unit_size}
 use Rattle.roles.specs.Values.{range_of}
 use Rattle.roles.proofs.widths.WidthLaws.{at_least_one, at_most_four, never_three}
-use Rattle.dictionary.specs.declared.types.Found.{Found}
-use Rattle.dictionary.specs.declared.types.Found.TheVariants as found
+use Rattle.std.specs.Prelude.{Result, Ok, Err, is_ok, ⊤}
+use Rattle.dictionary.specs.declared.types.Named.{Named}
+use Rattle.dictionary.specs.declared.types.Named.TheVariants.{Count, At}
+use Rattle.dictionary.specs.declared.types.Missing.{Missing}
+use Rattle.dictionary.specs.declared.types.Missing.TheVariants as missing
 use Rattle.dictionary.proofs.naming.Sought.{sought_below}
-use Rattle.entries.specs.Judge.{judged, is_good}
+use Rattle.entries.specs.Judge.{judged}
 use Rattle.sdo.specs.Answers.{size_of, reading, stored, unclear, offered, refused, length_of, writing, obeyed, silent, answer}
 use Rattle.sdo.specs.Frames.{command_of, index_in, sub_in, data_in}
 use Rattle.sdo.specs.declared.types.Abort.TheVariants as abort
 use Rattle.sdo.specs.declared.types.Answer.{Answer}
 use Rattle.sdo.specs.declared.types.Answer.TheVariants.{Silent, Aborted}
-use Rattle.dictionary.specs.contracts.types.Found as FoundType
 use Rattle.sdo.specs.declared.types.Command.{Command}
 use Rattle.sdo.specs.declared.types.Command.TheVariants.{Read, Write, Other}
 use Rattle.sdo.specs.declared.types.Size.{Size}
-use Rattle.entries.specs.declared.types.Verdict.{Verdict}
+use Rattle.entries.specs.declared.types.Fault.{Fault}
 use Rattle.sdo.proofs.Clearing.{soon_enough}
 
 -- ---- rows 5 to 9, for a slot
@@ -39,45 +41,36 @@ unfolding size_of
 own_bytes slot e = let kind = (range_of slot).kind in rw e (at_least_one kind, at_most_four kind, never_three kind)
 
 module _ (words frame : List ℕ) (size : Size) (slot : ℕ) where
-  pub read_only : writable ≤ slot → Aborted abort.ReadOnly ≡ writing words frame size (found.At slot)
+  pub read_only : writable ≤ slot → Aborted abort.ReadOnly ≡ writing words frame size (Ok (At slot))
   unfolding writing offered first
   read_only h = simp (le-ltb slot writable h)
 
   module _ (h : slot < writable) (own n : ℕ) (e : own ≡ size_of slot) (told : n ≡ length_of size own) where
-    pub too_long : own < n → Aborted abort.TooLong ≡ writing words frame size (found.At slot)
+    pub too_long : own < n → Aborted abort.TooLong ≡ writing words frame size (Ok (At slot))
     unfolding writing offered first
     too_long l = simp (lt-ltb slot writable h, ← e, ← told, lt-ltb own n l)
 
-    pub too_short : n < own → Aborted abort.TooShort ≡ writing words frame size (found.At slot)
+    pub too_short : n < own → Aborted abort.TooShort ≡ writing words frame size (Ok (At slot))
     unfolding writing offered first
     too_short l = simp (lt-ltb slot writable h, ← e, ← told, le-ltb own n (omega arith), lt-ltb n own l)
 
     pub in_full : n ≡ own → (word : ℕ) → word ≡ data_in own frame
-        → first (unclear slot word) (Aborted abort.NotClear) (stored slot word (judged words slot word)) ≡ writing words frame size (found.At slot)
+        → first (unclear slot word) (Aborted abort.NotClear) (stored slot word (judged words slot word)) ≡ writing words frame size (Ok (At slot))
     unfolding writing offered first
     in_full same word d = simp (lt-ltb slot writable h, ← e, ← told, same, le-ltb own own (omega arith), ← d)
 
-    pub fitting : n ≡ own → (word : ℕ) → word ≡ data_in own frame → (v : Verdict) → v ≡ judged words slot word
-        → first (is_good v && unclear slot word) (Aborted abort.NotClear) (stored slot word v) ≡ writing words frame size (found.At slot)
+    pub fitting : n ≡ own → (word : ℕ) → word ≡ data_in own frame → (v : Result ⊤ Fault) → v ≡ judged words slot word
+        → first (is_ok v && unclear slot word) (Aborted abort.NotClear) (stored slot word v) ≡ writing words frame size (Ok (At slot))
     fitting same word d v judge = soon_enough words slot word v judge ∙ in_full same word d
 
 -- ---- a name that is found stands in the unit
 
-pub in_unit : {f : Found} {slot : ℕ} → slot_found f < unit_size → f ≡ found.At slot → slot < unit_size
+pub in_unit : {f : Result Named Missing} {slot : ℕ} → slot_found f < unit_size → f ≡ Ok (At slot) → slot < unit_size
 in_unit h e = rw e at h
 
-pub found_in_unit : (unit : List ℕ) (index sub : ℕ) (f : Found) → f ≡ sought unit index sub → slot_found f < unit_size
+pub found_in_unit : (unit : List ℕ) (index sub : ℕ) (f : Result Named Missing) → f ≡ sought unit index sub → slot_found f < unit_size
 unfolding unit_size words
 found_in_unit unit index sub f e = let h = sought_below unit index sub f e in omega arith
-
--- ---- a name that is no entry's: told by the case's number
-
-pub no_entry : (words frame : List ℕ) (size : Size) (f : Found) → OneOf (0 ∷ 1 ∷ 2 ∷ []) (tag_of FoundType.the_type f) → refused f ≡ writing words frame size f
-unfolding writing
-no_entry words frame size found.NoIndex k = refl
-no_entry words frame size found.NoSub k = refl
-no_entry words frame size (found.Count n) k = refl
-no_entry words frame size (found.At slot) k = absurd (miss (0 ∷ 1 ∷ 2 ∷ []) 3 tt k)
 
 -- ---- the command
 
@@ -86,7 +79,7 @@ module _ (words frame : List ℕ) (c : Command) (e : c ≡ command_of (get_or fr
   unfolding obeyed
   other_command q = rw (← e, q)
 
-  module _ (index sub : ℕ) (f : Found) (i : index ≡ index_in frame) (s : sub ≡ sub_in frame) (at : f ≡ sought words index sub) where
+  module _ (index sub : ℕ) (f : Result Named Missing) (i : index ≡ index_in frame) (s : sub ≡ sub_in frame) (at : f ≡ sought words index sub) where
     named_is : f ≡ sought words (index_in frame) (sub_in frame)
     named_is = at ∙ ap (λ (x : ℕ). sought words x sub) i ∙ ap (sought words (index_in frame)) s
 

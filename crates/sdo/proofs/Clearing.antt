@@ -15,9 +15,9 @@ use Rattle.dictionary.specs.Rows.{u8}
 use Rattle.roles.specs.Chains.{chains, upper_in, lower_in, upper_of, lower_of}
 use Rattle.roles.specs.Values.{range_of}
 use Rattle.roles.specs.declared.types.Link.TheVariants.{Free}
-use Rattle.entries.specs.Judge.{number_of, finite, within, in_range, past_upper, past_lower, in_order, before, judged, is_good}
-use Rattle.entries.specs.declared.types.Verdict.{Verdict}
-use Rattle.entries.specs.declared.types.Verdict.TheVariants.{Good}
+use Rattle.entries.specs.Judge.{number_of, finite, within, in_range, past_upper, past_lower, in_order, judged}
+use Rattle.std.specs.Prelude.{Result, Ok, is_ok, ⊤}
+use Rattle.entries.specs.declared.types.Fault.{Fault}
 use Rattle.sdo.specs.Answers.{stored, unclear}
 use Rattle.sdo.specs.declared.types.Abort.TheVariants as abort
 use Rattle.sdo.specs.declared.types.Answer.{Answer}
@@ -35,12 +35,12 @@ no_lower : lower_of (slot_of 0x1003 0) ≡ Free
 unfolding chains lower_in lower_of slot_of first
 no_lower = refl
 
-a_byte : (word : ℕ) → within (pos (word % 0x100)) (pos 0) (pos 255) ≡ Good
+a_byte : (word : ℕ) → within (pos (word % 0x100)) (pos 0) (pos 255) ≡ Ok tt
 unfolding within below first
 a_byte word = rw (le-ltb 255 (word % 0x100) (omega arith), le-ltb (word % 0x100) 0 zero-le)
 
-pub any_good : (unit : List ℕ) (word : ℕ) → judged unit (slot_of 0x1003 0) word ≡ Good
-unfolding judged in_range finite number_of in_order past_upper past_lower before first
+pub any_good : (unit : List ℕ) (word : ℕ) → judged unit (slot_of 0x1003 0) word ≡ Ok tt
+unfolding judged in_range finite number_of in_order past_upper past_lower first
 any_good unit word = rw (own_range, no_upper, no_lower, a_byte word)
 
 -- the configuration stands before it
@@ -52,19 +52,19 @@ pub configured_through : (slot word : ℕ) → slot < configured → (a : Answer
 unfolding unclear first
 configured_through slot word h a = rw (ne_eqb slot (slot_of 0x1003 0) (λ e. omega (arith, before_it)))
 
-unclear_good : (unit : List ℕ) (slot word : ℕ) → unclear slot word ≡ true → judged unit slot word ≡ Good
+unclear_good : (unit : List ℕ) (slot word : ℕ) → unclear slot word ≡ true → judged unit slot word ≡ Ok tt
 unfolding unclear
 unclear_good unit slot word q =
     let here = eqb-true slot (slot_of 0x1003 0) ((and-eq-true_iff (eqb slot (slot_of 0x1003 0)) (not (eqb word 0))).0 q).0 in
     ap (λ (s : ℕ). judged unit s word) here ∙ any_good unit word
 
 -- so the code may ask of a good word alone
-pub soon_enough : (unit : List ℕ) (slot word : ℕ) (v : Verdict) → v ≡ judged unit slot word
-    → first (is_good v && unclear slot word) (Aborted abort.NotClear) (stored slot word v) ≡ first (unclear slot word) (Aborted abort.NotClear) (stored slot word (judged unit slot word))
-unfolding is_good first
+pub soon_enough : (unit : List ℕ) (slot word : ℕ) (v : Result ⊤ Fault) → v ≡ judged unit slot word
+    → first (is_ok v && unclear slot word) (Aborted abort.NotClear) (stored slot word v) ≡ first (unclear slot word) (Aborted abort.NotClear) (stored slot word (judged unit slot word))
+unfolding first
 soon_enough unit slot word v e = go (unclear slot word) refl
   where
     go : (u : Bool) → unclear slot word ≡ u
-        → first (is_good v && u) (Aborted abort.NotClear) (stored slot word v) ≡ first u (Aborted abort.NotClear) (stored slot word (judged unit slot word))
+        → first (is_ok v && u) (Aborted abort.NotClear) (stored slot word v) ≡ first u (Aborted abort.NotClear) (stored slot word (judged unit slot word))
     go true q = rw (e ∙ unclear_good unit slot word q)
     go false q = rw (← e) (simp and-false)

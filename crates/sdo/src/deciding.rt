@@ -1,7 +1,6 @@
 // The answer to a frame: the first row of the paper's table that matches.
-ghost use Rattle.std.specs.Prelude.{◌≡◌, ◌<◌, length, get_or, ◌&&◌};
+ghost use Rattle.std.specs.Prelude.{◌≡◌, ◌<◌, length, get_or, ◌&&◌, is_ok};
 ghost use Rattle.numbers.specs.Choice.{first};
-ghost use Rattle.entries.specs.Judge.{is_good};
 ghost use Rattle.dictionary.specs.Names.{slot_found};
 ghost use Rattle.dictionary.specs.Unit.{unit_size};
 ghost use Rattle.sdo.specs.Answers.{reading, stored, unclear, length_of, refused, writing, obeyed, answer};
@@ -11,20 +10,20 @@ use super::data::{command, data_in, index_in, sub_in};
 use super::types::{Abort, Answer, Command, Size};
 use dictionary::naming::find;
 use dictionary::slots::{ERROR_REGISTER, ERRORS_KEPT, Unit};
-use dictionary::types::Found;
+use dictionary::types::{Missing, Named};
 use entries::judging::judge;
-use entries::types::Verdict;
+use entries::types::Fault;
 use roles::widths::width;
 
-fn read(unit: &Unit, found: Found) -> Answer
+fn read(unit: &Unit, found: Result<Named, Missing>) -> Answer
     requires { slot_found found < unit_size }
     ensures { result ≡ reading unit.now found }
 {
     match found {
-        Found::NoIndex => Answer::Aborted(Abort::NoIndex),
-        Found::NoSub => Answer::Aborted(Abort::NoSub),
-        Found::Count(n) => Answer::Value(n as u32, 1),
-        Found::At(slot) => Answer::Value(unit[slot], width(slot)),
+        Err(Missing::Index) => Answer::Aborted(Abort::NoIndex),
+        Err(Missing::Sub) => Answer::Aborted(Abort::NoSub),
+        Ok(Named::Count(n)) => Answer::Value(n as u32, 1),
+        Ok(Named::At(slot)) => Answer::Value(unit[slot], width(slot)),
     }
 }
 
@@ -37,22 +36,22 @@ fn is_unclear(slot: usize, word: u32) -> bool
     false
 }
 
-fn store(slot: usize, word: u32, verdict: Verdict) -> Answer
-    ensures { result ≡ first (is_good verdict && unclear slot word) (Answer.Aborted Abort.NotClear) (stored slot word verdict) }
+fn store(slot: usize, word: u32, verdict: Result<(), Fault>) -> Answer
+    ensures { result ≡ first (is_ok verdict && unclear slot word) (Answer.Aborted Abort.NotClear) (stored slot word verdict) }
 {
     match verdict {
         // any byte is good for 1003h:0, so this is soon enough
-        Verdict::Good => {
+        Ok(()) => {
             if is_unclear(slot, word) {
                 return Answer::Aborted(Abort::NotClear);
             }
             Answer::Written(slot, word)
         }
-        Verdict::NotFinite => Answer::Aborted(Abort::NotFinite),
-        Verdict::Above => Answer::Aborted(Abort::Above),
-        Verdict::Below => Answer::Aborted(Abort::Below),
-        Verdict::ChainUp => Answer::Aborted(Abort::ChainUp),
-        Verdict::ChainDown => Answer::Aborted(Abort::ChainDown),
+        Err(Fault::NotFinite) => Answer::Aborted(Abort::NotFinite),
+        Err(Fault::Above) => Answer::Aborted(Abort::Above),
+        Err(Fault::Below) => Answer::Aborted(Abort::Below),
+        Err(Fault::ChainUp) => Answer::Aborted(Abort::ChainUp),
+        Err(Fault::ChainDown) => Answer::Aborted(Abort::ChainDown),
     }
 }
 
@@ -68,7 +67,7 @@ fn length_of(size: Size, own: u8) -> u8
 
 fn offer(unit: &Unit, frame: &[u8], size: Size, slot: usize) -> Answer
     requires { length frame.now ≡ 8 }
-    ensures { result ≡ writing unit.now frame.now size (Found.At slot) }
+    ensures { result ≡ writing unit.now frame.now size (Ok (Named.At slot)) }
 {
     // the configuration, the EC values and 1003h:0 come first
     if ERROR_REGISTER <= slot {
@@ -87,25 +86,27 @@ fn offer(unit: &Unit, frame: &[u8], size: Size, slot: usize) -> Answer
 }
 
 // A name that is no entry's.
-fn refuse(found: Found) -> Answer
+fn refuse(found: Result<Named, Missing>) -> Answer
     ensures { result ≡ refused found }
 {
     match found {
-        Found::NoIndex => Answer::Aborted(Abort::NoIndex),
-        Found::NoSub => Answer::Aborted(Abort::NoSub),
-        Found::Count(_) => Answer::Aborted(Abort::ReadOnly),
-        Found::At(_) => Answer::Aborted(Abort::ReadOnly),
+        Err(Missing::Index) => Answer::Aborted(Abort::NoIndex),
+        Err(Missing::Sub) => Answer::Aborted(Abort::NoSub),
+        Ok(Named::Count(_)) => Answer::Aborted(Abort::ReadOnly),
+        Ok(Named::At(_)) => Answer::Aborted(Abort::ReadOnly),
     }
 }
 
-fn write(unit: &Unit, frame: &[u8], size: Size, found: Found) -> Answer
+fn write(unit: &Unit, frame: &[u8], size: Size, found: Result<Named, Missing>) -> Answer
     requires { length frame.now ≡ 8 }
     ensures { result ≡ writing unit.now frame.now size found }
 {
-    let Found::At(slot) = found else {
-        return refuse(found);
-    };
-    offer(unit, frame, size, slot)
+    match found {
+        Ok(Named::At(slot)) => offer(unit, frame, size, slot),
+        Ok(Named::Count(_)) => refuse(found),
+        Err(Missing::Index) => refuse(found),
+        Err(Missing::Sub) => refuse(found),
+    }
 }
 
 fn obey(unit: &Unit, frame: &[u8]) -> Answer

@@ -22,7 +22,7 @@ use Rattle.entries.specs.Judge.{in_range, held, past_upper}
 use Rattle.entries.specs.Valid.{Valid}
 use Rattle.roles.specs.declared.types.Link.{Link}
 use Rattle.roles.specs.declared.types.Link.TheVariants.{Free, Loose, Strict}
-use Rattle.entries.specs.declared.types.Verdict.TheVariants.{Good}
+use Rattle.std.specs.Prelude.{Ok}
 use Rattle.entries.proofs.Neighbours.{near, another, is_another, upper_another}
 use Rattle.sending.specs.Sending.{grows}
 use Rattle.sending.proofs.Agenda.{place, turn_of, place_inside, further}
@@ -112,6 +112,6 @@ module _ (a b : List ℕ) where
     stage_valid v w =
         record {
           sized = λ k h. rw (now k h) (stage_in (λ x. x < 256 ^ width (range_of k).kind) t k (v.sized k h) (w.sized k h));
-          ranged = λ k h. rw (now k h) (stage_in (λ x. in_range (range_of k) x ≡ Good) t k (v.ranged k h) (w.ranged k h));
+          ranged = λ k h. rw (now k h) (stage_in (λ x. in_range (range_of k) x ≡ Ok tt) t k (v.ranged k h) (w.ranged k h));
           linked = λ k h. link_at k (upper_of k) h (upper_another k h) (further k h) (v.linked k h) (w.linked k h);
         }

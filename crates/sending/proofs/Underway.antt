@@ -15,7 +15,7 @@ use Rattle.dictionary.specs.Names.{configured}
 use Rattle.dictionary.proofs.Tabulate.{tabulate}
 use Rattle.entries.specs.Judge.{judged}
 use Rattle.entries.specs.Valid.{Valid}
-use Rattle.entries.specs.declared.types.Verdict.TheVariants.{Good}
+use Rattle.std.specs.Prelude.{Ok}
 use Rattle.entries.proofs.Allowed.{allowed}
 use Rattle.sending.specs.Sending.{sends}
 use Rattle.sending.proofs.Agenda.{Call, turns, call_at, slot_inside}
@@ -102,7 +102,7 @@ module _ {a b left words : List ℕ} where
   again u = all_coming words b ∙ ap (λ (n : ℕ). coming words b n 0) (sym u.all) ∙ resumed a b words u.turn u.now u.more u.turn 0 u.all (omega arith) ∙ sym u.rest
 
 -- so the next write is accepted
-pub accepted : {a b left words : List ℕ} {slot : ℕ} → Valid a → Valid b → Underway a b (slot ∷ left) words → slot < length words → judged words slot (get_or b slot 0) ≡ Good
+pub accepted : {a b left words : List ℕ} {slot : ℕ} → Valid a → Valid b → Underway a b (slot ∷ left) words → slot < length words → judged words slot (get_or b slot 0) ≡ Ok tt
 accepted {b = b} {words = words} {slot = slot} v w u l = allowed words slot (get_or b slot 0) (inside u) l (valid v w (step u l))
 
 -- ---- the beginning and the end

@@ -11,8 +11,11 @@ use borrow.Author.Tests.{ltb-true, leb-true, eqb-true, ne_eqb, le-leb, lt-leb}
 use Rattle.numbers.specs.Choice.{first}
 use Rattle.dictionary.specs.Names.{Stretch, stretches, with_index, largest, at_sub, named, find, slot_of, slot_found, configured, received_to, writable, words, configured_bytes}
 use Rattle.dictionary.specs.Objects.{meant, Rows}
-use Rattle.dictionary.specs.declared.types.Found.{Found}
-use Rattle.dictionary.specs.declared.types.Found.TheVariants.{NoIndex, NoSub, Count, At}
+use Rattle.std.specs.Prelude.{Result, Ok, Err}
+use Rattle.dictionary.specs.declared.types.Named.{Named}
+use Rattle.dictionary.specs.declared.types.Named.TheVariants.{Count, At}
+use Rattle.dictionary.specs.declared.types.Missing.{Missing}
+use Rattle.dictionary.specs.declared.types.Missing.TheVariants.{Index, Sub}
 use Rattle.dictionary.specs.declared.objects.Object.{Object}
 use Rattle.dictionary.specs.declared.objects.Object.TheVariants.{Unknown, Var, Array, Constants, Errors}
 
@@ -69,66 +72,66 @@ array_of r slot last index q e =
 
 -- ---- what the subs of a VAR, of an ARRAY, of the constants and of the errors name
 
-pub var_value : (slot sub : ℕ) → sub ≡ 0 → At slot ≡ named (meant (Var slot) 0) sub
+pub var_value : (slot sub : ℕ) → sub ≡ 0 → Ok (At slot) ≡ named (meant (Var slot) 0) sub
 unfolding named meant largest at_sub first
-var_value slot sub e = rw e (ap At (sym (add-zero slot)))
+var_value slot sub e = rw e (ap (λ (n : ℕ). Ok (At n)) (sym (add-zero slot)))
 
-pub var_none : (slot sub : ℕ) → (sub ≡ 0 → ⊥) → NoSub ≡ named (meant (Var slot) 0) sub
+pub var_none : (slot sub : ℕ) → (sub ≡ 0 → ⊥) → Err Sub ≡ named (meant (Var slot) 0) sub
 unfolding named meant largest at_sub first
 var_none slot sub n = simp (ne_eqb sub 0 n, lt-leb sub 0 (omega arith), and-false)
 
 module _ (slot last sub : ℕ) where
-  pub array_count : sub ≡ 0 → Count last ≡ named (meant (Array slot last) 0) sub
+  pub array_count : sub ≡ 0 → Ok (Count last) ≡ named (meant (Array slot last) 0) sub
   unfolding named meant largest at_sub first
   array_count e =
       let m : max last 0 ≡ last = omega arith in
       rw e (simp m)
 
-  pub array_value : (sub ≡ 0 → ⊥) → sub ≤ last → At (slot + (sub - 1)) ≡ named (meant (Array slot last) 0) sub
+  pub array_value : (sub ≡ 0 → ⊥) → sub ≤ last → Ok (At (slot + (sub - 1))) ≡ named (meant (Array slot last) 0) sub
   unfolding named meant largest at_sub first
   array_value n h = simp (ne_eqb sub 0 n, le-leb 1 sub (omega arith), le-leb sub last h)
 
-  pub array_none : (sub ≡ 0 → ⊥) → last < sub → NoSub ≡ named (meant (Array slot last) 0) sub
+  pub array_none : (sub ≡ 0 → ⊥) → last < sub → Err Sub ≡ named (meant (Array slot last) 0) sub
   unfolding named meant largest at_sub first
   array_none n h = simp (ne_eqb sub 0 n, lt-leb sub last h, and-false)
 
 module _ (sub : ℕ) where
-  pub constants_count : sub ≡ 0 → Count 15 ≡ named (meant Constants 0) sub
+  pub constants_count : sub ≡ 0 → Ok (Count 15) ≡ named (meant Constants 0) sub
   unfolding named meant largest at_sub first
   constants_count e = rw e
 
-  pub constants_fixed : (sub ≡ 0 → ⊥) → sub < 3 → At (slot_of 0x5010 1 + (sub - 1)) ≡ named (meant Constants 0) sub
+  pub constants_fixed : (sub ≡ 0 → ⊥) → sub < 3 → Ok (At (slot_of 0x5010 1 + (sub - 1))) ≡ named (meant Constants 0) sub
   unfolding named meant largest at_sub first
   constants_fixed n h = simp (ne_eqb sub 0 n, lt-leb 3 sub h, le-leb 1 sub (omega arith), le-leb sub 2 (omega arith))
 
-  pub constants_value : 3 ≤ sub → sub ≤ 15 → At (slot_of 0x5010 3 + (sub - 3)) ≡ named (meant Constants 0) sub
+  pub constants_value : 3 ≤ sub → sub ≤ 15 → Ok (At (slot_of 0x5010 3 + (sub - 3))) ≡ named (meant Constants 0) sub
   unfolding named meant largest at_sub first
   constants_value l h = simp (ne_eqb sub 0 (λ e. omega arith), le-leb 3 sub l, le-leb sub 15 h)
 
-  pub constants_none : 15 < sub → NoSub ≡ named (meant Constants 0) sub
+  pub constants_none : 15 < sub → Err Sub ≡ named (meant Constants 0) sub
   unfolding named meant largest at_sub first
   constants_none h =
       simp (ne_eqb sub 0 (λ e. omega arith), lt-leb sub 15 h, lt-leb sub 2 (omega arith), and-false)
 
 module _ (sub : ℕ) where
-  pub errors_kept : sub ≡ 0 → At (slot_of 0x1003 0) ≡ named (meant Errors 0) sub
+  pub errors_kept : sub ≡ 0 → Ok (At (slot_of 0x1003 0)) ≡ named (meant Errors 0) sub
   unfolding named meant largest at_sub first
-  errors_kept e = rw e (ap At (sym (add-zero (slot_of 0x1003 0))))
+  errors_kept e = rw e (ap (λ (n : ℕ). Ok (At n)) (sym (add-zero (slot_of 0x1003 0))))
 
-  pub errors_value : (sub ≡ 0 → ⊥) → sub ≤ 8 → At (slot_of 0x1003 1 + (sub - 1)) ≡ named (meant Errors 0) sub
+  pub errors_value : (sub ≡ 0 → ⊥) → sub ≤ 8 → Ok (At (slot_of 0x1003 1 + (sub - 1))) ≡ named (meant Errors 0) sub
   unfolding named meant largest at_sub first
   errors_value n h = simp (ne_eqb sub 0 n, lt-leb sub 0 (omega arith), and-false, le-leb 1 sub (omega arith), le-leb sub 8 h)
 
-  pub errors_none : 8 < sub → NoSub ≡ named (meant Errors 0) sub
+  pub errors_none : 8 < sub → Err Sub ≡ named (meant Errors 0) sub
   unfolding named meant largest at_sub first
   errors_none h = simp (ne_eqb sub 0 (λ e. omega arith), lt-leb sub 0 (omega arith), lt-leb sub 8 h, and-false)
 
 -- ---- the stretch that a name is found in
 
-no_slot : (slot : ℕ) → NoSub ≡ At slot → ⊥
+no_slot : {missing : Missing} (slot : ℕ) → ◌≡◌ {A = Result Named Missing} (Err missing) (Ok (At slot)) → ⊥
 no_slot slot q = let z : ◌≡◌ {A = ℕ} 0 1 = cc in omega arith
 
-same_slot : (k slot : ℕ) → At k ≡ At slot → slot ≡ k
+same_slot : (k slot : ℕ) → ◌≡◌ {A = Result Named Missing} (Ok (At k)) (Ok (At slot)) → slot ≡ k
 same_slot k slot q = cc
 
 -- where all stretches pass a test, it passed too
@@ -144,7 +147,7 @@ module _ (p : Stretch → Bool) (index sub slot : ℕ) where
   q : Stretch → Bool
   q = λ t. p t && eqb t.index index
 
-  at_sub_picked : (ss : List Stretch) → every q ss ≡ true → at_sub ss sub ≡ At slot → Picked p index sub slot
+  at_sub_picked : (ss : List Stretch) → every q ss ≡ true → at_sub ss sub ≡ Ok (At slot) → Picked p index sub slot
   unfolding at_sub every first q
   at_sub_picked [] e r = absurd (no_slot slot r)
   at_sub_picked (s ∷ ss) e r = go (leb s.from sub && leb sub s.to) refl (at_sub_picked ss both.1) r
@@ -152,8 +155,8 @@ module _ (p : Stretch → Bool) (index sub slot : ℕ) where
       both : (q s ≡ true) × (every q ss ≡ true)
       both = (and-eq-true_iff (q s) (every q ss)).0 e
 
-      go : (b : Bool) → (leb s.from sub && leb sub s.to) ≡ b → (at_sub ss sub ≡ At slot → Picked p index sub slot)
-          → first b (At (s.slot + (sub - s.from))) (at_sub ss sub) ≡ At slot → Picked p index sub slot
+      go : (b : Bool) → (leb s.from sub && leb sub s.to) ≡ b → (at_sub ss sub ≡ Ok (At slot) → Picked p index sub slot)
+          → first b (Ok (At (s.slot + (sub - s.from)))) (at_sub ss sub) ≡ Ok (At slot) → Picked p index sub slot
       go true t ih r =
           let inside = (and-eq-true_iff (leb s.from sub) (leb sub s.to)).0 t in
           let own = (and-eq-true_iff (p s) (eqb s.index index)).0 both.0 in
@@ -167,15 +170,15 @@ module _ (p : Stretch → Bool) (index sub slot : ℕ) where
           }
       go false t ih r = ih r
 
-  pub picked : every p stretches ≡ true → find index sub ≡ At slot → Picked p index sub slot
+  pub picked : every p stretches ≡ true → find index sub ≡ Ok (At slot) → Picked p index sub slot
   unfolding find named first q
   picked t e = go (with_index index stretches) (every_with_index p index stretches t) e
     where
-      choose : (b : Bool) (n : ℕ) (f : Found) → first b (Count n) f ≡ At slot → f ≡ At slot
+      choose : (b : Bool) (n : ℕ) (f : Result Named Missing) → first b (Ok (Count n)) f ≡ Ok (At slot) → f ≡ Ok (At slot)
       choose true n f r = absurd (let z : ◌≡◌ {A = ℕ} 0 1 = cc in omega arith)
       choose false n f r = r
 
-      go : (ss : List Stretch) → every q ss ≡ true → named ss sub ≡ At slot → Picked p index sub slot
+      go : (ss : List Stretch) → every q ss ≡ true → named ss sub ≡ Ok (At slot) → Picked p index sub slot
       go [] t r = absurd (let z : ◌≡◌ {A = ℕ} 0 1 = cc in omega arith)
       go (s ∷ ss) t r =
           at_sub_picked (s ∷ ss) t (choose (eqb sub 0 && ltb 0 s.from) (largest (s ∷ ss)) (at_sub (s ∷ ss) sub) r)
@@ -188,12 +191,11 @@ all_below_words : every below_words stretches ≡ true
 unfolding every below_words stretches words
 all_below_words = refl
 
-pub found_below : (index sub : ℕ) (f : Found) → f ≡ find index sub → slot_found f < words
+pub found_below : (index sub : ℕ) (f : Result Named Missing) → f ≡ find index sub → slot_found f < words
 unfolding below_words words
-found_below index sub NoIndex e = lit< tt
-found_below index sub NoSub e = lit< tt
-found_below index sub (Count n) e = lit< tt
-found_below index sub (At slot) e =
+found_below index sub (Err missing) e = lit< tt
+found_below index sub (Ok (Count n)) e = lit< tt
+found_below index sub (Ok (At slot)) e =
     let it = picked below_words index sub slot all_below_words (sym e) in
     let l = it.low in
     let h = it.high in

@@ -12,8 +12,11 @@ use borrow.Author.Tests.{ne_eqb, eqb-true, lt-ltb, le-ltb, leb-true}
 use Rattle.numbers.specs.Choice.{first}
 use Rattle.dictionary.specs.Names.{Stretch, stretches, with_index, named, find, slot_of, slot_found, hidden, sought, writable, words}
 use Rattle.dictionary.specs.Objects.{meant, Rows}
-use Rattle.dictionary.specs.declared.types.Found.{Found}
-use Rattle.dictionary.specs.declared.types.Found.TheVariants.{NoSub, At}
+use Rattle.std.specs.Prelude.{Result, Ok, Err}
+use Rattle.dictionary.specs.declared.types.Named.{Named}
+use Rattle.dictionary.specs.declared.types.Named.TheVariants.{At}
+use Rattle.dictionary.specs.declared.types.Missing.{Missing}
+use Rattle.dictionary.specs.declared.types.Missing.TheVariants.{Sub}
 use Rattle.dictionary.specs.declared.objects.Object.{Object}
 use Rattle.dictionary.specs.declared.objects.Object.TheVariants.{Unknown, Var, Array, Constants, Errors}
 use Rattle.dictionary.proofs.Once.{rows_once}
@@ -23,7 +26,7 @@ use Rattle.dictionary.proofs.naming.NameLaws.{every, Picked, picked, by_object, 
 -- ---- hidden or not
 
 module _ (unit : List ℕ) (index sub : ℕ) where
-  pub is_hidden : hidden unit index sub ≡ true → NoSub ≡ sought unit index sub
+  pub is_hidden : hidden unit index sub ≡ true → Err Sub ≡ sought unit index sub
   unfolding sought first
   is_hidden h = rw h
 
@@ -32,19 +35,19 @@ module _ (unit : List ℕ) (index sub : ℕ) where
   is_shown h = rw h
 
   -- a name that stands for an entry now is found in the table
-  pub sought_at : (slot : ℕ) → sought unit index sub ≡ At slot → find index sub ≡ At slot
+  pub sought_at : (slot : ℕ) → sought unit index sub ≡ Ok (At slot) → find index sub ≡ Ok (At slot)
   unfolding sought first
   sought_at slot e = go (hidden unit index sub) e
     where
-      go : (b : Bool) → first b NoSub (find index sub) ≡ At slot → find index sub ≡ At slot
+      go : (b : Bool) → first b (Err Sub) (find index sub) ≡ Ok (At slot) → find index sub ≡ Ok (At slot)
       go true q = let z : ◌≡◌ {A = ℕ} 0 1 = cc in absurd (omega arith)
       go false q = q
 
-  pub sought_below : (f : Found) → f ≡ sought unit index sub → slot_found f < words
+  pub sought_below : (f : Result Named Missing) → f ≡ sought unit index sub → slot_found f < words
   unfolding sought first words
   sought_below f e = go (hidden unit index sub) e
     where
-      go : (b : Bool) → f ≡ first b NoSub (find index sub) → slot_found f < words
+      go : (b : Bool) → f ≡ first b (Err Sub) (find index sub) → slot_found f < words
       go true q = rw q (lit< tt)
       go false q = found_below index sub f q
 
@@ -58,7 +61,7 @@ named_errors : (sub : ℕ) → named (meant Errors 0) sub ≡ find 0x1003 sub
 named_errors sub = by_object Errors Errors 0x1003 sub refl listed
 
 module _ (unit : List ℕ) (sub : ℕ) where
-  pub past_kept : get_or unit (slot_of 0x1003 0) 0 < sub → NoSub ≡ sought unit 0x1003 sub
+  pub past_kept : get_or unit (slot_of 0x1003 0) 0 < sub → Err Sub ≡ sought unit 0x1003 sub
   unfolding hidden
   past_kept h = is_hidden unit 0x1003 sub (lt-ltb _ sub h)
 
@@ -99,7 +102,7 @@ all_so : every never_hidden stretches ≡ true
 unfolding every never_hidden stretches writable
 all_so = refl
 
-module _ (unit : List ℕ) (index sub slot : ℕ) (e : find index sub ≡ At slot) (h : slot < writable) where
+module _ (unit : List ℕ) (index sub slot : ℕ) (e : find index sub ≡ Ok (At slot)) (h : slot < writable) where
   not_hidden : hidden unit index sub ≡ false
   unfolding hidden never_hidden
   not_hidden = go (eqb index 0x1003) refl
@@ -118,5 +121,5 @@ module _ (unit : List ℕ) (index sub slot : ℕ) (e : find index sub ≡ At slo
       go true q = le-ltb _ sub (le_trans (last (leb writable s.slot) refl (rw (it.index_is, q) at it.passed)) zero-le)
       go false q = refl
 
-  pub still_sought : sought unit index sub ≡ At slot
+  pub still_sought : sought unit index sub ≡ Ok (At slot)
   still_sought = sym (is_shown unit index sub not_hidden) ∙ e

@@ -13,6 +13,7 @@ use Rattle.octets.proofs.little.Parts.{sets_append}
 use Rattle.records.specs.Layout.{Listed, size, record_of, records, extent}
 use Rattle.records.proofs.SizeLaws.{records_length}
 use Rattle.records.specs.Rows.{row_of, row_from, entry_at}
+use Rattle.records.specs.declared.rows.Row.{Row}
 use Rattle.image.specs.declared.writing.types.Front.{Front}
 use Rattle.image.specs.Placing.{Room, Placed}
 
@@ -78,8 +79,8 @@ both_placed xs ys {words} {image} {image'} {image''} {from} p q =
       place = omega (arith, p.place, q.place, extent_append xs ys);
     }
 
-named_record : (row sub : ℕ) {n word word' : ℕ} → n ≡ size (entry_at row sub) → word ≡ word'
-    → bytes 2 (row / 0x10000) ++ bytes 1 sub ++ bytes 4 n ++ bytes n word ≡ record_of (entry_at row sub) word'
+named_record : (row : Row) (sub : ℕ) {n word word' : ℕ} → n ≡ size (entry_at row sub) → word ≡ word'
+    → bytes 2 row.index ++ bytes 1 sub ++ bytes 4 n ++ bytes n word ≡ record_of (entry_at row sub) word'
 unfolding record_of entry_at
 named_record row sub s w = rw (s, w)
 
@@ -89,17 +90,17 @@ one_record e [] = sym (append-nil (record_of e 0))
 one_record e (w ∷ words) = sym (append-nil (record_of e w))
 
 -- the record of an entry: its head, and the bytes of its word behind it
-pub record_placed : (row sub : ℕ) (words : List ℕ) (from : Front) (image : List ℕ) {image' image'' : List ℕ} {word n : ℕ}
+pub record_placed : (row : Row) (sub : ℕ) (words : List ℕ) (from : Front) (image : List ℕ) {image' image'' : List ℕ} {word n : ℕ}
     → n ≡ size (entry_at row sub) → word ≡ get_or words from.slot 0
-    → image' ≡ sets image from.place (bytes 2 (row / 0x10000) ++ bytes 1 sub ++ bytes 4 n) → image'' ≡ sets image' (from.place + 7) (bytes n word)
+    → image' ≡ sets image from.place (bytes 2 row.index ++ bytes 1 sub ++ bytes 4 n) → image'' ≡ sets image' (from.place + 7) (bytes n word)
     → Placed (entry_at row sub ∷ []) words from image image'' (record { slot = from.slot + 1; place = from.place + 7 + n })
 unfolding extent
 record_placed row sub words from image {word = word} {n = n} s w p q =
-    let all : bytes 2 (row / 0x10000) ++ bytes 1 sub ++ bytes 4 n ++ bytes n word ≡ record_of (entry_at row sub) (get_or (drop from.slot words) 0 0) =
+    let all : bytes 2 row.index ++ bytes 1 sub ++ bytes 4 n ++ bytes n word ≡ record_of (entry_at row sub) (get_or (drop from.slot words) 0 0) =
     named_record row sub s (w ∙ sym (get_or-drop from.slot words 0 0 ∙ ap (λ (i : ℕ). get_or words i 0) (add-zero from.slot))) in
     record {
       stored =
-          put_behind (bytes 2 (row / 0x10000) ++ bytes 1 sub ++ bytes 4 n) (bytes n word) image from.place p q (simp (length-append, bytes_length))
+          put_behind (bytes 2 row.index ++ bytes 1 sub ++ bytes 4 n) (bytes n word) image from.place p q (simp (length-append, bytes_length))
           ∙ ap (sets image from.place) (all ∙ one_record (entry_at row sub) (drop from.slot words));
       slot = refl;
       place = omega arith;
@@ -148,23 +149,23 @@ module _ {whole : List Listed} {words : List ℕ} {from : Front} {image : List �
 
 -- ---- the next sub of a row, the next of all rows, and none
 
-pub next_sub : (row sub last : ℕ) → sub ≤ last → row_from row sub (suc last - sub) ≡ (entry_at row sub ∷ []) ++ row_from row (sub + 1) (suc last - (sub + 1))
+pub next_sub : (row : Row) (sub last : ℕ) → sub ≤ last → row_from row sub (suc last - sub) ≡ (entry_at row sub ∷ []) ++ row_from row (sub + 1) (suc last - (sub + 1))
 unfolding row_from
 next_sub row sub last h =
     let next : suc sub ≡ sub + 1 = omega arith in
     let more : suc last - sub ≡ suc (suc last - suc sub) = omega arith in
     ap (row_from row sub) more ∙ ap (λ (n : ℕ). entry_at row sub ∷ row_from row n (suc last - n)) next
 
-pub next_row : (rows : List ℕ) (at : ℕ) → at < length rows → flat_map row_of (drop at rows) ≡ row_of (get_or rows at 0) ++ flat_map row_of (drop (at + 1) rows)
+pub next_row : (rows : List Row) (none : Row) (at : ℕ) → at < length rows → flat_map row_of (drop at rows) ≡ row_of (get_or rows at none) ++ flat_map row_of (drop (at + 1) rows)
 unfolding flat_map
-next_row rows at h =
+next_row rows none at h =
     let next : suc at ≡ at + 1 = omega arith in
-    ap (flat_map row_of) (drop-cons rows at 0 h) ∙ ap (λ (n : ℕ). row_of (get_or rows at 0) ++ flat_map row_of (drop n rows)) next
+    ap (flat_map row_of) (drop-cons rows at none h) ∙ ap (λ (n : ℕ). row_of (get_or rows at none) ++ flat_map row_of (drop n rows)) next
 
-pub no_sub : (row sub last : ℕ) → last < sub → row_from row sub (suc last - sub) ≡ []
+pub no_sub : (row : Row) (sub last : ℕ) → last < sub → row_from row sub (suc last - sub) ≡ []
 unfolding row_from
 no_sub row sub last h = let none : suc last - sub ≡ 0 = omega arith in ap (row_from row sub) none
 
-pub no_row : (rows : List ℕ) (at : ℕ) → length rows ≤ at → flat_map row_of (drop at rows) ≡ []
+pub no_row : (rows : List Row) (at : ℕ) → length rows ≤ at → flat_map row_of (drop at rows) ≡ []
 unfolding flat_map
 no_row rows at h = ap (flat_map row_of) (drop_of_length-le rows h)

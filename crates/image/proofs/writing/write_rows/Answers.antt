@@ -9,11 +9,11 @@ loop-row-init c = all_left c.requires
 
 pub write_row-front-requires : goal.write_row-front-requires
 write_row-front-requires c =
-    let m = c.loop-row in room_next m.invariant _ _ (next_row _ m.row-index (omega arith))
+    let m = c.loop-row in room_next m.invariant _ _ (next_row _ _ m.row-index (omega arith))
 
 pub loop-row-preserved : goal.loop-row-preserved
 loop-row-preserved c =
-    let m = c.loop-row in left_next m.invariant _ _ (next_row _ m.row-index (omega arith)) c.write_row-front.ensures
+    let m = c.loop-row in left_next m.invariant _ _ (next_row _ _ m.row-index (omega arith)) c.write_row-front.ensures
 
 pub shape_of-image : goal.shape_of-image
 shape_of-image c = c.loop-row.invariant.long

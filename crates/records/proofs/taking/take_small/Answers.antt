@@ -8,19 +8,19 @@ use Rattle.records.proofs.taking.take_small.Goals as goal
 pub returns-then-four_at-ne1 : goal.returns-then-four_at-ne1
 unfolding size_in
 returns-then-four_at-ne1 c =
-    let s = c.requires in let size = same_size _ _ s.1 (small_size s.2) in other_size _ _ size (λ r. c.if-four_at-ne1.true (c.four_at.ensures ∙ r))
+    let s = c.requires in let size = same_size c.args.row c.args.sub refl (small_size _ s) in other_size _ _ size (λ r. c.if-four_at-ne1.true (c.four_at.ensures ∙ r))
 
 pub returns-then-rest-lt8 : goal.returns-then-rest-lt8
 unfolding size_in
 returns-then-rest-lt8 c =
-    let s = c.requires in let size = same_size _ _ s.1 (small_size s.2) in no_data _ _ size (sym c.four_at.ensures ∙ c.if-four_at-ne1.false) c.if-rest-lt8.true
+    let s = c.requires in let size = same_size c.args.row c.args.sub refl (small_size _ s) in no_data _ _ size (sym c.four_at.ensures ∙ c.if-four_at-ne1.false) c.if-rest-lt8.true
 
-pub returns-then-greatest_of-data_in : goal.returns-then-greatest_of-data_in
+pub returns-then-most-data_in : goal.returns-then-most-data_in
 unfolding size_in
-returns-then-greatest_of-data_in c =
-    let s = c.requires in let size = same_size _ _ s.1 (small_size s.2) in unfit _ _ size (sym c.four_at.ensures ∙ c.if-four_at-ne1.false) c.if-rest-lt8.false (c.data_in.ensures ∙ is_there _ _ (small_size s.2) c.if-rest-lt8.false) (small_unfit s.2 c.greatest_of.ensures _ c.if-greatest_of-data_in.true ∙ same_fits _ _ s.1 _) refl
+returns-then-most-data_in c =
+    let s = c.requires in let size = same_size c.args.row c.args.sub refl (small_size _ s) in unfit _ _ size (sym c.four_at.ensures ∙ c.if-four_at-ne1.false) c.if-rest-lt8.false (c.data_in.ensures ∙ is_there _ _ (small_size _ s) c.if-rest-lt8.false) (small_unfit _ s _ c.if-most-data_in.true ∙ same_fits c.args.row c.args.sub refl _) refl
 
 pub returns : goal.returns
 unfolding size_in
 returns c =
-    let s = c.requires in let size = same_size _ _ s.1 (small_size s.2) in fit _ _ size (sym c.four_at.ensures ∙ c.if-four_at-ne1.false) c.if-rest-lt8.false (c.data_in.ensures ∙ is_there _ _ (small_size s.2) c.if-rest-lt8.false) (small_fit s.2 c.greatest_of.ensures _ c.if-greatest_of-data_in.false ∙ same_fits _ _ s.1 _) refl
+    let s = c.requires in let size = same_size c.args.row c.args.sub refl (small_size _ s) in fit _ _ size (sym c.four_at.ensures ∙ c.if-four_at-ne1.false) c.if-rest-lt8.false (c.data_in.ensures ∙ is_there _ _ (small_size _ s) c.if-rest-lt8.false) (small_fit _ s _ c.if-most-data_in.false ∙ same_fits c.args.row c.args.sub refl _) refl

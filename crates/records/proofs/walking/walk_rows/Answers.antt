@@ -12,7 +12,7 @@ loop-row-init c = (omega arith, rows_start _ _ _ refl)
 
 pub returns-in_default : goal.returns-in_default
 returns-in_default c =
-    let s = c.args in let m = c.loop-row in rows_refused s.rows.now m.row-index _ s.body.now m.rest.now m.invariant.1 (omega arith) c.in_default.is c.take_row-records.ensures
+    let s = c.args in let m = c.loop-row in rows_refused s.rows.now m.row-index _ s.body.now m.rest.now m.invariant.1 _ (omega arith) c.in_default.is c.take_row-records.ensures
 
 pub slice_bounds-rest-count : goal.slice_bounds-rest-count
 slice_bounds-rest-count c =
@@ -24,7 +24,7 @@ slice_bounds-rest-start c =
 
 pub loop-row-preserved : goal.loop-row-preserved
 loop-row-preserved c =
-    let s = c.args in let m = c.loop-row in rows_on s.rows.now m.row-index _ s.body.now m.rest.now m.invariant.1 (omega arith) m.invariant.0 (sym c.take_row-records.ensures ∙ c.in-Ok.is)
+    let s = c.args in let m = c.loop-row in rows_on s.rows.now m.row-index _ s.body.now m.rest.now m.invariant.1 _ (omega arith) m.invariant.0 (sym c.take_row-records.ensures ∙ c.in-Ok.is)
 
 pub returns : goal.returns
 returns c = let s = c.args in let m = c.loop-row in rows_done s.rows.now m.row-index _ s.body.now m.rest.now m.invariant.1 (omega arith)

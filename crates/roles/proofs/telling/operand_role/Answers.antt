@@ -4,6 +4,7 @@ use mathlib.Core.Path.{refl}
 use native.Mathlib.Omega.{arith}
 use borrow.Author.Rules.{rules}
 use Rattle.dictionary.specs.Names.{slot_of}
+use Rattle.roles.specs.declared.types.Role.TheVariants as role
 use Rattle.roles.proofs.RoleLaws.{folded_from, folded_below, folded_on, told_when, held_when, near}
 use Rattle.roles.proofs.telling.operand_role.Goals as goal
 
@@ -17,28 +18,28 @@ overflow_add-first c = search rules
 
 pub returns-then-first-lt-OPERAND_NUMBER : goal.returns-then-first-lt-OPERAND_NUMBER
 unfolding told_when held_when near slot_of
-returns-then-first-lt-OPERAND_NUMBER c = folded_below 6 _ _ c.requires.0 c.requires.1 c.if-first-lt-OPERAND_NUMBER.true refl refl
+returns-then-first-lt-OPERAND_NUMBER c = folded_below role.Source _ _ c.requires.0 c.requires.1 c.if-first-lt-OPERAND_NUMBER.true refl refl
 
 pub returns-then-first-lt-OPERAND_DIGITS : goal.returns-then-first-lt-OPERAND_DIGITS
 unfolding told_when held_when near slot_of
-returns-then-first-lt-OPERAND_DIGITS c = folded_on 7 _ _ c.requires.0 c.requires.1 c.if-first-lt-OPERAND_NUMBER.false c.if-first-lt-OPERAND_DIGITS.true refl refl
+returns-then-first-lt-OPERAND_DIGITS c = folded_on role.Number _ _ c.requires.0 c.requires.1 c.if-first-lt-OPERAND_NUMBER.false c.if-first-lt-OPERAND_DIGITS.true refl refl
 
 pub returns-then-first-lt-OPERAND_FROM : goal.returns-then-first-lt-OPERAND_FROM
 unfolding told_when held_when near slot_of
-returns-then-first-lt-OPERAND_FROM c = folded_on 3 _ _ c.requires.0 c.requires.1 c.if-first-lt-OPERAND_DIGITS.false c.if-first-lt-OPERAND_FROM.true refl refl
+returns-then-first-lt-OPERAND_FROM c = folded_on role.Digits _ _ c.requires.0 c.requires.1 c.if-first-lt-OPERAND_DIGITS.false c.if-first-lt-OPERAND_FROM.true refl refl
 
 pub returns-then-first-lt-OPERAND_TO : goal.returns-then-first-lt-OPERAND_TO
 unfolding told_when held_when near slot_of
-returns-then-first-lt-OPERAND_TO c = folded_on 23 _ _ c.requires.0 c.requires.1 c.if-first-lt-OPERAND_FROM.false c.if-first-lt-OPERAND_TO.true refl refl
+returns-then-first-lt-OPERAND_TO c = folded_on role.MathLow _ _ c.requires.0 c.requires.1 c.if-first-lt-OPERAND_FROM.false c.if-first-lt-OPERAND_TO.true refl refl
 
 pub returns-then-first-lt-OPERAND_GAIN : goal.returns-then-first-lt-OPERAND_GAIN
 unfolding told_when held_when near slot_of
-returns-then-first-lt-OPERAND_GAIN c = folded_on 24 _ _ c.requires.0 c.requires.1 c.if-first-lt-OPERAND_TO.false c.if-first-lt-OPERAND_GAIN.true refl refl
+returns-then-first-lt-OPERAND_GAIN c = folded_on role.MathHigh _ _ c.requires.0 c.requires.1 c.if-first-lt-OPERAND_TO.false c.if-first-lt-OPERAND_GAIN.true refl refl
 
 pub returns-then-first-lt-MATH_OPERATOR : goal.returns-then-first-lt-MATH_OPERATOR
 unfolding told_when held_when near slot_of
-returns-then-first-lt-MATH_OPERATOR c = folded_on 13 _ _ c.requires.0 c.requires.1 c.if-first-lt-OPERAND_GAIN.false c.if-first-lt-MATH_OPERATOR.true refl refl
+returns-then-first-lt-MATH_OPERATOR c = folded_on role.Gain _ _ c.requires.0 c.requires.1 c.if-first-lt-OPERAND_GAIN.false c.if-first-lt-MATH_OPERATOR.true refl refl
 
 pub returns : goal.returns
 unfolding told_when held_when near slot_of
-returns c = folded_from 5 _ _ c.requires.0 c.requires.1 c.if-first-lt-MATH_OPERATOR.false refl refl
+returns c = folded_from role.Comparison _ _ c.requires.0 c.requires.1 c.if-first-lt-MATH_OPERATOR.false refl refl

@@ -1,22 +1,26 @@
--- `widths::width_of` meets its contract: a role has the range that its number stands for (`WidthLaws`).
+-- `widths::width_of` meets its contract: a role has the range that it stands for (`Cases`).
 -- Assumes nothing.
-use native.Mathlib.Omega.{arith}
+use mathlib.Core.Path.{refl}
+use mathlib.Core.List.{[], ◌∷◌}
 use Rattle.numbers.specs.Choice.{first}
+use Rattle.dictionary.proofs.Tabulate.{tabulate}
 use Rattle.dictionary.specs.Rows.{width}
-use Rattle.roles.specs.Roles.{ranged, ranges, chosen}
-use Rattle.roles.proofs.widths.WidthLaws.{one_wide, two_wide}
+use Rattle.roles.specs.Roles.{ranged}
+use Rattle.roles.specs.declared.types.Role.TheVariants.{Axis, Switch, Response, Digits, Operator, Comparison, Source, Number, Table, Byte, Real, Long}
+use Rattle.roles.proofs.Cases.{named, left, nth, place, among}
 use Rattle.roles.proofs.widths.width_of.Goals as goal
 
-pub returns-then-role-eq-REAL : goal.returns-then-role-eq-REAL
-unfolding width ranged ranges chosen first
-returns-then-role-eq-REAL c = rw c.if-role-eq-REAL.true
+pub returns-in-Axis : goal.returns-in-Axis
+unfolding width ranged
+returns-in-Axis c = named (λ r. width (ranged r).kind) 1 (Axis ∷ Switch ∷ Response ∷ Digits ∷ Operator ∷ Comparison ∷ Source ∷ Number ∷ Table ∷ Byte ∷ []) c.in-Axis.is refl
 
-pub returns-then-role-lt-REAL : goal.returns-then-role-lt-REAL
-returns-then-role-lt-REAL c = one_wide c.if-role-lt-REAL.true
+pub returns-in-Real : goal.returns-in-Real
+unfolding width ranged
+returns-in-Real c = named (λ r. width (ranged r).kind) 4 (Real ∷ Long ∷ []) c.in-Real.is refl
 
-pub returns-then-role-eq-LONG : goal.returns-then-role-eq-LONG
-unfolding width ranged ranges chosen first
-returns-then-role-eq-LONG c = rw c.if-role-eq-LONG.true
-
-pub returns : goal.returns
-returns c = two_wide (omega arith) c.if-role-eq-LONG.false
+pub returns-in_default : goal.returns-in_default
+unfolding width ranged tabulate first nth place among
+returns-in_default c =
+    let d = c.in_default in
+    left (λ r. width (ranged r).kind) 2 (Axis ∷ Switch ∷ Response ∷ Digits ∷ Operator ∷ Comparison ∷ Source ∷ Number ∷ Table ∷ Byte ∷ Real ∷ Long ∷ []) _ refl
+    d.not-Axis d.not-Switch d.not-Response d.not-Digits d.not-Operator d.not-Comparison d.not-Source d.not-Number d.not-Table d.not-Byte d.not-Real d.not-Long
