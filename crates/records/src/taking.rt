@@ -15,7 +15,7 @@ use roles::widths::width_of;
 
 // A record of a role and its size.
 fn take_sized(rest: &[u8], row: Row, sub: u8, role: Role, size: u8) -> Result<usize, Refusal>
-    requires { (7 ≤ length rest.now) × (role ≡ role_at row sub) × (size ≡ width (ranged role).kind) }
+    requires { (role ≡ role_at row sub) × (size ≡ width (ranged role).kind) }
     ensures { result ≡ sized (entry_at row sub) rest.now }
 {
     if four_at(rest, 3) != size as u32 {
@@ -49,7 +49,7 @@ fn greatest_of(role: Role) -> Option<u8>
 
 // A byte from 0 to its greatest value, as every second entry is.
 fn take_small(rest: &[u8], row: Row, sub: u8, most: u8) -> Result<usize, Refusal>
-    requires { (7 ≤ length rest.now) × (Some most ≡ greatest (role_at row sub)) }
+    requires { Some most ≡ greatest (role_at row sub) }
     ensures { result ≡ sized (entry_at row sub) rest.now }
 {
     if four_at(rest, 3) != 1 {
@@ -66,7 +66,7 @@ fn take_small(rest: &[u8], row: Row, sub: u8, most: u8) -> Result<usize, Refusal
 
 // An INTEGER16 with its whole range.
 fn take_whole(rest: &[u8], row: Row, sub: u8) -> Result<usize, Refusal>
-    requires { (7 ≤ length rest.now) × (role_at row sub ≡ Role.Whole) }
+    requires { role_at row sub ≡ Role.Whole }
     ensures { result ≡ sized (entry_at row sub) rest.now }
 {
     if four_at(rest, 3) != 2 {
@@ -80,7 +80,6 @@ fn take_whole(rest: &[u8], row: Row, sub: u8) -> Result<usize, Refusal>
 
 // A record whose name is right.
 fn take_named(rest: &[u8], row: Row, sub: u8) -> Result<usize, Refusal>
-    requires { 7 ≤ length rest.now }
     ensures { result ≡ sized (entry_at row sub) rest.now }
 {
     let role = row.role_at(sub);

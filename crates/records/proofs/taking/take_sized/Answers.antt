@@ -8,19 +8,19 @@ use Rattle.records.proofs.taking.take_sized.Goals as goal
 pub returns-then-four_at-size : goal.returns-then-four_at-size
 unfolding size_in
 returns-then-four_at-size c =
-    let s = c.requires in let size = same_size _ _ s.1 s.2 in other_size _ _ size (λ r. c.if-four_at-size.true (c.four_at.ensures ∙ r))
+    let s = c.requires in let size = same_size _ _ s.0 s.1 in other_size _ _ size (λ r. c.if-four_at-size.true (c.four_at.ensures ∙ r))
 
 pub returns-then-rest-size : goal.returns-then-rest-size
 unfolding size_in
 returns-then-rest-size c =
-    let s = c.requires in let size = same_size _ _ s.1 s.2 in no_data _ _ size (sym c.four_at.ensures ∙ c.if-four_at-size.false) c.if-rest-size.true
+    let s = c.requires in let size = same_size _ _ s.0 s.1 in no_data _ _ size (sym c.four_at.ensures ∙ c.if-four_at-size.false) c.if-rest-size.true
 
 pub returns-then-fits : goal.returns-then-fits
 unfolding size_in
 returns-then-fits c =
-    let s = c.requires in let size = same_size _ _ s.1 s.2 in fit _ _ size (sym c.four_at.ensures ∙ c.if-four_at-size.false) c.if-rest-size.false (c.data_in.ensures ∙ is_there _ _ s.2 c.if-rest-size.false) (c.fits.ensures ∙ same_fits _ _ s.1 _) c.if-fits.true
+    let s = c.requires in let size = same_size _ _ s.0 s.1 in fit _ _ size (sym c.four_at.ensures ∙ c.if-four_at-size.false) c.if-rest-size.false (c.data_in.ensures ∙ is_there _ _ s.1 c.if-rest-size.false) (c.fits.ensures ∙ same_fits _ _ s.0 _) c.if-fits.true
 
 pub returns : goal.returns
 unfolding size_in
 returns c =
-    let s = c.requires in let size = same_size _ _ s.1 s.2 in unfit _ _ size (sym c.four_at.ensures ∙ c.if-four_at-size.false) c.if-rest-size.false (c.data_in.ensures ∙ is_there _ _ s.2 c.if-rest-size.false) (c.fits.ensures ∙ same_fits _ _ s.1 _) c.if-fits.false
+    let s = c.requires in let size = same_size _ _ s.0 s.1 in unfit _ _ size (sym c.four_at.ensures ∙ c.if-four_at-size.false) c.if-rest-size.false (c.data_in.ensures ∙ is_there _ _ s.1 c.if-rest-size.false) (c.fits.ensures ∙ same_fits _ _ s.0 _) c.if-fits.false
