@@ -7,7 +7,7 @@ use native.Mathlib.Nat.{sub-zero, suc-sub-suc, pow-succ', le_of_suc-le-suc, not-
 use native.Mathlib.Omega.{arith}
 use lib.ListN.{length, take, drop, replicate}
 use lib.Seq.{get_or-drop}
-use mir.Syntax.{w16, w32}
+use mir.Syntax.{w32}
 use Rattle.std.specs.Int.{to_le_bytes}
 use Rattle.octets.specs.Little.{little, bytes, Bytes}
 
@@ -65,10 +65,6 @@ are_bytes (suc n) v zero = omega arith
 are_bytes (suc n) v (suc i) = are_bytes n (v / 256) i
 
 -- what the language's own `to_le_bytes` gives
-pub le_bytes_two : (n : ℕ) → to_le_bytes w16 n ≡ bytes 2 n
-unfolding bytes
-le_bytes_two n = refl
-
 pub le_bytes_four : (n : ℕ) → to_le_bytes w32 n ≡ bytes 4 n
 unfolding bytes
 le_bytes_four n =
