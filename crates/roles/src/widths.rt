@@ -22,7 +22,8 @@ pub fn width_of(role: Role) -> u8
         | Role::Number
         | Role::Table
         | Role::Byte => 1,
-        Role::Real | Role::Long => 4,
+        Role::Real => 4,
+        Role::Long => 4,
         _ => 2,
     }
 }

@@ -25,7 +25,8 @@ pub fn lower(role: Role, slot: usize) -> Link
     ensures { result ≡ lower_of slot }
 {
     match role {
-        Role::InnerX | Role::LastX => Link::Loose(slot - 1),
+        Role::InnerX => Link::Loose(slot - 1),
+        Role::LastX => Link::Loose(slot - 1),
         Role::EcHigh => Link::Strict(slot - 12),
         Role::MathHigh => Link::Strict(slot - 4),
         Role::PvHigh | Role::FvHigh | Role::LineHigh => Link::Strict(slot - 8),

@@ -16,7 +16,11 @@ returns-in-Axis c = named (λ r. width (ranged r).kind) 1 (Axis ∷ Switch ∷ R
 
 pub returns-in-Real : goal.returns-in-Real
 unfolding width ranged
-returns-in-Real c = named (λ r. width (ranged r).kind) 4 (Real ∷ Long ∷ []) c.in-Real.is refl
+returns-in-Real c = rw c.in-Real.is
+
+pub returns-in-Long : goal.returns-in-Long
+unfolding width ranged
+returns-in-Long c = rw c.in-Long.is
 
 pub returns-in_default : goal.returns-in_default
 unfolding width ranged tabulate first nth place among

@@ -15,7 +15,11 @@ use Rattle.entries.proofs.judging.chains.lower.Goals as goal
 
 pub overflow_sub-result : goal.overflow_sub-result
 unfolding alone
-overflow_sub-result c = let near = c.requires.near (sym (named alone false (InnerX ∷ LastX ∷ []) c.in-InnerX.is refl)) in let low = near.0 in let high = near.1 in search rules
+overflow_sub-result c = let near = c.requires.near (sym (named alone false (InnerX ∷ []) c.in-InnerX.is refl)) in let low = near.0 in let high = near.1 in search rules
+
+pub overflow_sub-result-in-LastX : goal.overflow_sub-result-in-LastX
+unfolding alone
+overflow_sub-result-in-LastX c = let near = c.requires.near (sym (named alone false (LastX ∷ []) c.in-LastX.is refl)) in let low = near.0 in let high = near.1 in search rules
 
 pub overflow_sub-result-in-EcHigh : goal.overflow_sub-result-in-EcHigh
 unfolding alone
@@ -39,7 +43,11 @@ overflow_sub-result-in-SpanHigh c = let near = c.requires.near (sym (named alone
 
 pub returns-in-InnerX : goal.returns-in-InnerX
 unfolding lower_by
-returns-in-InnerX c = let slot = c.args.slot in beneath c.requires (named (λ r. lower_by r slot) _ (InnerX ∷ LastX ∷ []) c.in-InnerX.is refl)
+returns-in-InnerX c = let slot = c.args.slot in beneath c.requires (named (λ r. lower_by r slot) _ (InnerX ∷ []) c.in-InnerX.is refl)
+
+pub returns-in-LastX : goal.returns-in-LastX
+unfolding lower_by
+returns-in-LastX c = let slot = c.args.slot in beneath c.requires (named (λ r. lower_by r slot) _ (LastX ∷ []) c.in-LastX.is refl)
 
 pub returns-in-EcHigh : goal.returns-in-EcHigh
 unfolding lower_by

@@ -1,7 +1,7 @@
 -- `records::rows::Row::role_at` meets its contract, test by test.
 -- Assumes nothing.
-use borrow.Author.Tests.{eq-eqb, ne_eqb}
 use Rattle.numbers.specs.Choice.{first}
+use Rattle.numbers.proofs.Tests.{tests}
 use Rattle.records.specs.Rows.{role_at, value_at}
 use Rattle.records.proofs.rows.Row.role_at.Goals as goal
 
@@ -11,12 +11,12 @@ returns-in-Each c = rw c.in-Each.is
 
 pub returns-in-Condition : goal.returns-in-Condition
 unfolding role_at value_at first
-returns-in-Condition c = rw (c.in-Condition.is, eq-eqb _ _ c.if-sub-eq5.true)
+returns-in-Condition c = rw c.in-Condition.is (search tests)
 
 pub returns-in-Condition-2 : goal.returns-in-Condition-2
 unfolding role_at value_at first
-returns-in-Condition-2 c = rw (c.in-Condition.is, ne_eqb _ _ c.if-sub-eq5.false, eq-eqb _ _ c.if-sub-eq1.true)
+returns-in-Condition-2 c = rw c.in-Condition.is (search tests)
 
 pub returns-in-Condition-3 : goal.returns-in-Condition-3
 unfolding role_at value_at first
-returns-in-Condition-3 c = rw (c.in-Condition.is, ne_eqb _ _ c.if-sub-eq5.false, ne_eqb _ _ c.if-sub-eq1.false)
+returns-in-Condition-3 c = rw c.in-Condition.is (search tests)
