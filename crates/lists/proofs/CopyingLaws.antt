@@ -8,7 +8,7 @@ use lib.ListN.{length, get_or, set, take, drop, length-append, length-drop, drop
 use lib.Seq.{sets, set-set, drop-cons, drop-drop, take-nil, take-add, take_at, length-take-le, length-sets}
 use Rattle.octets.specs.Little.{bytes}
 use Rattle.octets.proofs.little.ByteLaws.{bytes_length}
-use Rattle.octets.proofs.little.Parts.{sets_append}
+use Rattle.octets.proofs.little.Parts.{placed, part, sets_append}
 use Rattle.records.specs.Walk.{size_in}
 use Rattle.lists.specs.Noting.{Stands, record_from}
 use Rattle.lists.proofs.changes.ComparingLaws.{first_tells}
@@ -66,6 +66,25 @@ module _ (wanted places list₀ list : List ℕ) (at k : ℕ) (l : Left wanted p
   all_copied h = sym (ap (λ (p : List ℕ). sets list at (flat_map (record_from wanted) p)) (drop_of_length-le places h)) ∙ l.whole
 
 -- ---- the record at a place, by its two ends
+
+pub four_put : (list wanted : List ℕ) (at place : ℕ) → place + 4 ≤ length wanted
+    → set (set (set (set list at (get_or wanted place 0)) (at + 1) (get_or wanted (place + 1) 0)) (at + 2) (get_or wanted (place + 2) 0)) (at + 3) (get_or wanted (place + 3) 0)
+    ≡ sets list at (take 4 (drop place wanted))
+unfolding placed
+four_put list wanted at place h =
+    let next : (n : ℕ) → n + 1 ≡ suc n = λ n. omega arith in
+    let two : (n : ℕ) → n + 2 ≡ suc (suc n) = λ n. omega arith in
+    let three : (n : ℕ) → n + 3 ≡ suc (suc (suc n)) = λ n. omega arith in
+    rw (part wanted 4 place h, next at, next place, two at, two place, three at, three place)
+
+pub eight_put : (list wanted : List ℕ) (at place : ℕ) → place + 8 ≤ length wanted → {list' list'' : List ℕ}
+    → list' ≡ sets list at (take 4 (drop place wanted)) → list'' ≡ sets list' (at + 4) (take 4 (drop (place + 4) wanted))
+    → list'' ≡ sets list at (take 8 (drop place wanted))
+eight_put list wanted at place h p q =
+    let room = length-drop place wanted in
+    let four = length-take-le 4 (drop place wanted) (omega arith) in
+    q ∙ rw (p, take-add 4 4 (drop place wanted), drop-drop 4 place wanted)
+    (sym (sets_append (take 4 (drop place wanted)) (take 4 (drop (place + 4) wanted)) list at ∙ rw four))
 
 -- what was written in part is written whole
 again : (v m : List ℕ) (i n : ℕ) → sets (sets m i (take n v)) i v ≡ sets m i v

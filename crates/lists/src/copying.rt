@@ -6,13 +6,31 @@ ghost use Rattle.octets.specs.Little.{bytes};
 ghost use Rattle.lists.specs.Noting.{Stands, record_from};
 ghost use Rattle.lists.specs.Copying.{Standing};
 
-// Eight bytes. A copy of a length that is known beforehand goes as one word; of any other it would be a call of C's `memmove`, and a library for C
-// asks for nothing but `memcpy` and `memset`.
+use octets::putting::put;
+
+// Four bytes: all are read before one is written, so that they can go as one word. A copy by the library's method calls C's memmove, or gives a slice back
+// in a struct, which lies otherwise on a 32-bit chip.
+fn put_four(list: &mut [u8], at: usize, wanted: &[u8], place: usize)
+    requires { (at + 4 ≤ length list.old) × (place + 4 ≤ length wanted.now) }
+    ensures { list.new ≡ sets list.old at (take 4 (drop place wanted.now)) }
+{
+    let a = wanted[place];
+    let b = wanted[place + 1];
+    let c = wanted[place + 2];
+    let d = wanted[place + 3];
+    list[at] = a;
+    list[at + 1] = b;
+    list[at + 2] = c;
+    list[at + 3] = d;
+}
+
+// Eight bytes, which no record has fewer of.
 fn put_eight(list: &mut [u8], at: usize, wanted: &[u8], place: usize)
     requires { (at + 8 ≤ length list.old) × (place + 8 ≤ length wanted.now) }
     ensures { list.new ≡ sets list.old at (take 8 (drop place wanted.now)) }
 {
-    list[at..at + 8].copy_from_slice(&wanted[place..place + 8]);
+    put_four(list, at, wanted, place);
+    put_four(list, at + 4, wanted, place + 4);
 }
 
 // The record that begins at a place of the image, and where the next one goes. It has eight to eleven bytes, so its first eight and its last eight are all
@@ -32,7 +50,7 @@ fn put_count(list: &mut [u8], count: usize)
     requires { 4 ≤ length list.old }
     ensures { list.new ≡ sets list.old 0 (bytes 4 count) }
 {
-    list[..4].copy_from_slice(&count.to_le_bytes()[..4]);
+    put(list, 0, &count.to_le_bytes()[..4]);
 }
 
 // The count, and behind it the records.

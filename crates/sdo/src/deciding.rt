@@ -1,5 +1,5 @@
 // The answer to a frame: the first row of the paper's table that matches.
-ghost use Rattle.std.specs.Prelude.{◌≡◌, ◌<◌, true, false, get_or, Some, Ok, MatchOption};
+ghost use Rattle.std.specs.Prelude.{◌≡◌, ◌<◌, true, false, length, get_or, Some, Ok, MatchOption};
 ghost use Rattle.dictionary.specs.Names.{slot_found};
 ghost use Rattle.dictionary.specs.Unit.{unit_size};
 ghost use Rattle.sdo.specs.Answers.{reading, unclear, writing, obeyed, silent, answer};
@@ -74,20 +74,30 @@ pub(crate) fn obey(unit: &Unit, frame: &[u8; 8]) -> Result<Done, Abort>
     }
 }
 
-// The frame, if it is answered at all.
-pub(crate) fn heard(frame: &[u8], room: usize) -> Option<&[u8; 8]>
-    ensures { MatchOption result (silent frame.now room ≡ true) (λ f. (silent frame.now room ≡ false) × (f.now ≡ frame.now)) }
+// The eight bytes by value: a pointer that is given back in an Option lies otherwise on a 32-bit chip.
+fn eight(frame: &[u8]) -> [u8; 8]
+    requires { length frame.now ≡ 8 }
+    ensures { result ≡ frame.now }
 {
-    let Some(frame) = frame.as_array::<8>() else {
+    [
+        frame[0], frame[1], frame[2], frame[3], frame[4], frame[5], frame[6], frame[7],
+    ]
+}
+
+// The frame, if it is answered at all.
+pub(crate) fn heard(frame: &[u8], room: usize) -> Option<[u8; 8]>
+    ensures { MatchOption result (silent frame.now room ≡ true) (λ f. (silent frame.now room ≡ false) × (f ≡ frame.now)) }
+{
+    if frame.len() != 8 {
         return None;
-    };
+    }
     if room < 8 {
         return None;
     }
     if frame[0] == 0x80 {
         return None;
     }
-    Some(frame)
+    Some(eight(frame))
 }
 
 // Any unit, any frame, any room for the reply; none is silence.
@@ -95,5 +105,5 @@ pub fn decide(unit: &Unit, frame: &[u8], room: usize) -> Option<Result<Done, Abo
     ensures { result ≡ answer unit.now frame.now room }
 {
     let frame = heard(frame, room)?;
-    Some(obey(unit, frame))
+    Some(obey(unit, &frame))
 }

@@ -74,8 +74,8 @@ pub fn serve(unit: &mut Unit, frame: &[u8], reply: &mut [u8]) -> Option<Result<D
     ensures { Served unit.old frame.now reply.old unit.new reply.new result }
 {
     let frame = heard(frame, reply.len())?;
-    let answer = obey(unit, frame);
+    let answer = obey(unit, &frame);
     keep(unit, answer);
-    send(frame, reply, answer);
+    send(&frame, reply, answer);
     Some(answer)
 }

@@ -7,6 +7,7 @@ ghost use Rattle.image.specs.Placing.{Room, Placed};
 
 use super::types::Front;
 use dictionary::words::word_at;
+use octets::putting::put;
 use records::rows::Row;
 use roles::widths::width_of;
 
@@ -15,7 +16,7 @@ pub fn put_number(image: &mut [u8], at: usize, size: usize, number: u32)
     requires { (at + size ≤ length image.old) × (size ≤ 4) }
     ensures { image.new ≡ sets image.old at (bytes size number) }
 {
-    image[at..at + size].copy_from_slice(&number.to_le_bytes()[..size]);
+    put(image, at, &number.to_le_bytes()[..size]);
 }
 
 // The head of a record: its index, its sub, and how many bytes of data follow.
