@@ -45,7 +45,7 @@ fn judge_number(v: i32, low: i32, high: i32) -> Result<(), Fault>
     Ok(())
 }
 
-pub fn judge_range(role: Role, word: u32) -> Result<(), Fault>
+fn judge_own(role: Role, word: u32) -> Result<(), Fault>
     ensures { result ≡ in_range (ranged role) word }
 {
     let range = range_of(role);
@@ -53,6 +53,30 @@ pub fn judge_range(role: Role, word: u32) -> Result<(), Fault>
         return judge_number(number(range.kind, word), range.low, range.high);
     }
     Err(Fault::NotFinite)
+}
+
+pub fn judge_range(role: Role, word: u32) -> Result<(), Fault>
+    ensures { result ≡ in_range (ranged role) word }
+{
+    match role {
+        // more than a third of the entries have a whole range, where there is nothing to ask
+        Role::Long
+        | Role::Whole
+        | Role::FirstX
+        | Role::InnerX
+        | Role::LastX
+        | Role::EcLow
+        | Role::EcHigh
+        | Role::MathLow
+        | Role::MathHigh
+        | Role::PvLow
+        | Role::PvHigh
+        | Role::LineLow
+        | Role::LineHigh
+        | Role::SpanLow
+        | Role::SpanHigh => Ok(()),
+        _ => judge_own(role, word),
+    }
 }
 
 // Whether a word may stand in the range of a role.
