@@ -4,7 +4,7 @@
                                  at a table that is not as found, or at a public function without its contract
     python3 papers.py --write    writes TRUST.md's tables anew, in place
 
-Looked at are README.md, docs/ with what stands below it but PORT.md, which names what is gone, and the README.md of tests/, bench/ and chip/: names in backticks, and in TRACE.md the words before
+Looked at are README.md, docs/ with what stands below it but PORT.md and DESIGN-PASS.md, which name what is gone, and the README.md of tests/, bench/ and chip/: names in backticks, and in TRACE.md the words before
 them too. A file of definitions has to be believed if one is led to it, by what is cited, from a demand, from the statements on a
 session's pieces and on its program, from what a line of the spool product's session does, or from a contract that stands at the edge: of a function that C calls, that a program uses, or that nothing
 else in the tree uses.
@@ -20,7 +20,7 @@ import wrong_answers
 from tree import CRATES, ROOT, public, public_functions
 
 TRUST = ROOT / "docs" / "TRUST.md"
-PAPERS = [ROOT / "README.md", *sorted({*ROOT.glob("docs/**/*.md")} - {ROOT / "docs" / "PORT.md"}), ROOT / "tests" / "README.md", ROOT / "bench" / "README.md", ROOT / "chip" / "README.md"]
+PAPERS = [ROOT / "README.md", *sorted({*ROOT.glob("docs/**/*.md")} - {ROOT / "docs" / "PORT.md", ROOT / "docs" / "DESIGN-PASS.md"}), ROOT / "tests" / "README.md", ROOT / "bench" / "README.md", ROOT / "chip" / "README.md"]
 LEANING = {name: below for name, (_, below) in trials.kit.lines().items()}
 WORDS = ("crates.txt", *("crates/*/%s/**/*.*" % part for part in trials.kit.PARTS), "crates/*/*.h", "bench/*", "chip/*", "tests/*", "tests/chip/*", "tools/*")
 TICKED = re.compile(r"`([^`]+)`")

@@ -4,7 +4,7 @@ ghost use Rattle.numbers.specs.Signed.{signed16};
 
 use crate::pairs::{Pair, pair_at};
 use crate::words::{byte_at, switched_at, time_at, whole_at};
-use dictionary::slots::Unit;
+use dictionary::slots::{UNIT, Unit};
 
 // One of so many blocks of a kind, with the unit as it finds it: block n has row k = n - 1.
 #[derive(Clone, Copy)]
@@ -12,13 +12,16 @@ pub struct Row<'a, const COUNT: usize> {
     pub unit: &'a Unit,
     pub k: usize,
     pub ghost is_one: { k < COUNT },
+    pub ghost few: { COUNT < 65536 },
 }
 
-// A number that no slot has names a word past the last in any unit, as the largest slot does, so no caller has to look first.
+// A number that no slot has names a word past the last, as the first past the last does, so no caller has to look first; where a slot is given by its
+// name nothing is left of the test.
 fn slot(unit: &Unit, first: usize, k: usize) -> usize
+    requires { k < 65536 }
     ensures { get_or unit.now result 0 ≡ get_or unit.now (first + k) 0 }
 {
-    first.saturating_add(k)
+    if first < UNIT { first + k } else { UNIT }
 }
 
 impl<'a, const COUNT: usize> Row<'a, COUNT> {

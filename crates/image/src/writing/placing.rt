@@ -7,16 +7,20 @@ ghost use Rattle.image.specs.Placing.{Room, Placed};
 
 use super::types::Front;
 use dictionary::words::word_at;
-use octets::putting::put;
 use records::rows::Row;
 use roles::widths::width_of;
 
 // So many bytes of a number, low byte first.
 pub fn put_number(image: &mut [u8], at: usize, size: usize, number: u32)
-    requires { (at + size ≤ length image.old) × (size ≤ 4) }
+    requires { at + size ≤ length image.old }
     ensures { image.new ≡ sets image.old at (bytes size number) }
 {
-    put(image, at, &number.to_le_bytes()[..size]);
+    // a byte at a time from what is left: the library's bytes, cut to the size and put, take twice the time
+    let mut rest = number;
+    for place in at..at + size {
+        image[place] = (rest % 0x100) as u8;
+        rest /= 0x100;
+    }
 }
 
 // The head of a record: its index, its sub, and how many bytes of data follow.

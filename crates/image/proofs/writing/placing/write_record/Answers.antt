@@ -1,8 +1,6 @@
 -- `writing::placing::write_record` meets its contract: the head, and the data behind it (`PlacingLaws`).
 -- Assumes nothing.
 use native.Mathlib.Omega.{arith}
-use Rattle.roles.specs.Roles.{ranged}
-use Rattle.roles.proofs.widths.WidthLaws.{at_most_four}
 use Rattle.records.proofs.TakeLaws.{same_size}
 use Rattle.records.specs.Layout.{extent}
 use Rattle.image.proofs.writing.PlacingLaws.{record_placed}
@@ -15,7 +13,7 @@ put_head-requires c = omega (arith, c.requires.fits)
 pub put_number-requires : goal.put_number-requires
 unfolding extent
 put_number-requires c =
-    let size = same_size _ _ c.role_at.ensures c.width_of-size.ensures in omega (arith, c.requires.fits, at_most_four (ranged c.role_at.result).kind)
+    let size = same_size _ _ c.role_at.ensures c.width_of-size.ensures in omega (arith, c.requires.fits)
 
 pub returns : goal.returns
 returns c =
