@@ -91,11 +91,12 @@ fn judge_at(asked: Condition<'_>) -> Verdict
     against_whole(asked, v)
 }
 
-// Asked in three places, so that the compiler makes one function of it; as a bool it comes back in a register.
-fn counts_at(operator: u8, asked: Condition<'_>) -> bool
-    ensures { result ≡ counts operator (condition_at asked.entry.unit.now asked.entry.at) }
+// Asked in three places, so that the compiler makes one function of it; the unit and the slot go in registers, and a bool comes back in one.
+fn counts_at(unit: &Unit, operator: u8, at: usize) -> bool
+    requires { at < 65000 }
+    ensures { result ≡ counts operator (condition_at unit.now at) }
 {
-    does_count(operator, judge_at(asked))
+    does_count(operator, judge_at(Condition { unit, at }))
 }
 
 // Whether the operator of A, B or C holds: under 0 no condition is judged, else none that cannot matter any more.
@@ -110,30 +111,15 @@ fn holds_at(logic: Row<'_, 2>, t: usize) -> bool
         return true;
     }
     let at = CONDITION + row + 15 * t;
-    let one = gather(
-        operator,
-        0,
-        false,
-        counts_at(operator, Condition { unit, at }),
-    );
+    let one = gather(operator, 0, false, counts_at(unit, operator, at));
     if settles(operator, one) {
         return one;
     }
-    let two = gather(
-        operator,
-        1,
-        one,
-        counts_at(operator, Condition { unit, at: at + 5 }),
-    );
+    let two = gather(operator, 1, one, counts_at(unit, operator, at + 5));
     if settles(operator, two) {
         return two;
     }
-    gather(
-        operator,
-        2,
-        two,
-        counts_at(operator, Condition { unit, at: at + 10 }),
-    )
+    gather(operator, 2, two, counts_at(unit, operator, at + 10))
 }
 
 // The first that holds is selected, so what comes after it is not looked at.

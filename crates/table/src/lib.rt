@@ -28,21 +28,22 @@ fn at(words: &[u32], k: usize) -> i16
     signed(word_at(words, k))
 }
 
-// The curve over the interval that ends at point k.
-fn piece(points: Points<'_>, v: i16, k: usize) -> i16
+// The curve over the interval that ends at point k. Here and in the walk the three lists go apart: then the compiler knows how long they are, which
+// saves some fifty instructions a table.
+fn piece(response: &[u32], x: &[u32], y: &[u32], v: i16, k: usize) -> i16
     requires { 0 < k }
-    ensures { result ≡ interval points.entry.response.now points.entry.x.now points.entry.y.now v k }
+    ensures { result ≡ interval response.now x.now y.now v k }
 {
-    let end = at(points.y, k);
-    if word_at(points.response, k) == 1 {
+    let end = at(y, k);
+    if word_at(response, k) == 1 {
         let from = Point {
-            x: at(points.x, k - 1),
-            y: at(points.y, k - 1),
+            x: at(x, k - 1),
+            y: at(y, k - 1),
         };
         return line(
             from,
             Point {
-                x: at(points.x, k),
+                x: at(x, k),
                 y: end,
             },
             v,
@@ -52,29 +53,30 @@ fn piece(points: Points<'_>, v: i16, k: usize) -> i16
 }
 
 // One walk over the points: it ends at the first that is not used, or that v does not pass.
-fn curved(points: Points<'_>, v: i16) -> i16
-    ensures { result ≡ curve points.entry.response.now points.entry.x.now points.entry.y.now v }
+fn curved(response: &[u32], x: &[u32], y: &[u32], v: i16) -> i16
+    ensures { result ≡ curve response.now x.now y.now v }
 {
-    if v <= at(points.x, 0) {
-        return at(points.y, 0);
+    if v <= at(x, 0) {
+        return at(y, 0);
     }
     for k in 1..POINTS {
-        if word_at(points.response, k) == 0 {
-            return at(points.y, k - 1);
+        if word_at(response, k) == 0 {
+            return at(y, k - 1);
         }
-        if v <= at(points.x, k) {
-            return piece(points, v, k);
+        if v <= at(x, k) {
+            return piece(response, x, y, v, k);
         }
     }
-    at(points.y, POINTS - 1)
+    at(y, POINTS - 1)
 }
 
 pub fn look_up(signal: Signal, points: Points<'_>) -> Signal
     ensures { result ≡ looked_up points.entry.response.now points.entry.x.now points.entry.y.now signal }
 {
+    let Points { response, x, y } = points;
     match signal {
-        Signal::Whole(v) => Signal::Whole(curved(points, v)),
-        Signal::Real(r) => Signal::Whole(curved(points, nearest(r))),
+        Signal::Whole(v) => Signal::Whole(curved(response, x, y, v)),
+        Signal::Real(r) => Signal::Whole(curved(response, x, y, nearest(r))),
         Signal::Error => Signal::Error,
         Signal::Absent => Signal::Absent,
     }

@@ -13,14 +13,14 @@ pub returns-then-v-at : goal.returns-then-v-at
 returns-then-v-at c =
     let a = c.args in
     let v = to_z w16 (of_z w16 a.v) in
-    answer (curve a.points.response.now a.points.x.now a.points.y.now) c.ranges.v (back c.at-then-v-at.type_inv c.at-then-v-at.ensures)
-    (at_first a.points.response.now a.points.x.now a.points.y.now v (reached a.points.x.now v 0 c.at.type_inv c.at.ensures c.if-v-at.true))
+    answer (curve a.response.now a.x.now a.y.now) c.ranges.v (back c.at-then-v-at.type_inv c.at-then-v-at.ensures)
+    (at_first a.response.now a.x.now a.y.now v (reached a.x.now v 0 c.at.type_inv c.at.ensures c.if-v-at.true))
 
 pub loop-k-init : goal.loop-k-init
 loop-k-init c =
     let a = c.args in
     let v = to_z w16 (of_z w16 a.v) in
-    start a.points.response.now a.points.x.now v (reached a.points.x.now v 0 c.at.type_inv c.at.ensures c.if-v-at.false)
+    start a.response.now a.x.now v (reached a.x.now v 0 c.at.type_inv c.at.ensures c.if-v-at.false)
 
 pub overflow_sub-k : goal.overflow_sub-k
 overflow_sub-k c = c.loop-k.invariant.from
@@ -29,8 +29,8 @@ pub returns-then-word_at-eq0 : goal.returns-then-word_at-eq0
 unfolding unused
 returns-then-word_at-eq0 c =
     let a = c.args in
-    answer (curve a.points.response.now a.points.x.now a.points.y.now) c.ranges.v (back c.at-then-word_at-eq0.type_inv c.at-then-word_at-eq0.ensures)
-    (at_unused a.points.response.now a.points.x.now (to_z w16 (of_z w16 a.v)) c.loop-k.invariant a.points.y.now (omega arith)
+    answer (curve a.response.now a.x.now a.y.now) c.ranges.v (back c.at-then-word_at-eq0.type_inv c.at-then-word_at-eq0.ensures)
+    (at_unused a.response.now a.x.now (to_z w16 (of_z w16 a.v)) c.loop-k.invariant a.y.now (omega arith)
     (eq-eqb _ _ (told c.word_at.ensures c.if-word_at-eq0.true)))
 
 pub piece-requires : goal.piece-requires
@@ -41,23 +41,23 @@ unfolding unused
 returns-then-v-at-2 c =
     let a = c.args in
     let v = to_z w16 (of_z w16 a.v) in
-    answer (curve a.points.response.now a.points.x.now a.points.y.now) c.ranges.v (back c.piece.type_inv c.piece.ensures)
-    (at_reached a.points.response.now a.points.x.now v c.loop-k.invariant a.points.y.now (omega arith)
+    answer (curve a.response.now a.x.now a.y.now) c.ranges.v (back c.piece.type_inv c.piece.ensures)
+    (at_reached a.response.now a.x.now v c.loop-k.invariant a.y.now (omega arith)
     (ne_eqb _ _ (λ e. c.if-word_at-eq0.false (c.word_at.ensures ∙ e)))
-    (reached a.points.x.now v c.loop-k.k c.at-in-loop-k.type_inv c.at-in-loop-k.ensures c.if-v-at-2.true))
+    (reached a.x.now v c.loop-k.k c.at-in-loop-k.type_inv c.at-in-loop-k.ensures c.if-v-at-2.true))
 
 pub loop-k-preserved : goal.loop-k-preserved
 unfolding unused
 loop-k-preserved c =
     let a = c.args in
     let v = to_z w16 (of_z w16 a.v) in
-    on a.points.response.now a.points.x.now v c.loop-k.invariant (omega arith)
+    on a.response.now a.x.now v c.loop-k.invariant (omega arith)
     (ne_eqb _ _ (λ e. c.if-word_at-eq0.false (c.word_at.ensures ∙ e)))
-    (reached a.points.x.now v c.loop-k.k c.at-in-loop-k.type_inv c.at-in-loop-k.ensures c.if-v-at-2.false)
+    (reached a.x.now v c.loop-k.k c.at-in-loop-k.type_inv c.at-in-loop-k.ensures c.if-v-at-2.false)
 
 pub returns : goal.returns
 returns c =
     let a = c.args in
     let all : c.loop-k.k ≡ 11 = omega (arith, c.loop-k.invariant.to) in
-    answer (curve a.points.response.now a.points.x.now a.points.y.now) c.ranges.v (back c.at-2.type_inv c.at-2.ensures)
-    (rw all at (at_end a.points.response.now a.points.x.now (to_z w16 (of_z w16 a.v)) c.loop-k.invariant a.points.y.now (omega arith)))
+    answer (curve a.response.now a.x.now a.y.now) c.ranges.v (back c.at-2.type_inv c.at-2.ensures)
+    (rw all at (at_end a.response.now a.x.now (to_z w16 (of_z w16 a.v)) c.loop-k.invariant a.y.now (omega arith)))

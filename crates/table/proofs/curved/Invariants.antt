@@ -4,7 +4,7 @@ use Rattle.table.proofs.TableLaws.{Walked}
 use Rattle.table.proofs.curved.Given as goal
 
 abbrev pub invariant-loop-k : goal.invariant-loop-k
-invariant-loop-k l = Walked l.points.response.now l.points.x.now l.v l.k
+invariant-loop-k l = Walked l.response l.x l.v l.k
 
 abbrev pub decreases-loop-k : goal.decreases-loop-k
 decreases-loop-k l = 11 - l.k
