@@ -14,22 +14,14 @@ use signals::signal::Signal;
 
 const POINTS: usize = 11;
 
-// A table's points: the words of its three entries, as long as they are.
-#[derive(Clone, Copy)]
-pub struct Points<'a> {
-    pub response: &'a [u32],
-    pub x: &'a [u32],
-    pub y: &'a [u32],
-}
-
 fn at(words: &[u32], k: usize) -> i16
     ensures { result ≡ value words.now k }
 {
     signed(word_at(words, k))
 }
 
-// The curve over the interval that ends at point k. Here and in the walk the three lists go apart: then the compiler knows how long they are, which
-// saves some fifty instructions a table.
+// The curve over the interval that ends at point k. The three lists go apart from here to the turn: in one struct the compiler no longer knows how long they
+// are, and a wired tick misses its bar.
 fn piece(response: &[u32], x: &[u32], y: &[u32], v: i16, k: usize) -> i16
     requires { 0 < k }
     ensures { result ≡ interval response.now x.now y.now v k }
@@ -70,10 +62,9 @@ fn curved(response: &[u32], x: &[u32], y: &[u32], v: i16) -> i16
     at(y, POINTS - 1)
 }
 
-pub fn look_up(signal: Signal, points: Points<'_>) -> Signal
-    ensures { result ≡ looked_up points.entry.response.now points.entry.x.now points.entry.y.now signal }
+pub fn look_up(signal: Signal, response: &[u32], x: &[u32], y: &[u32]) -> Signal
+    ensures { result ≡ looked_up response.now x.now y.now signal }
 {
-    let Points { response, x, y } = points;
     match signal {
         Signal::Whole(v) => Signal::Whole(curved(response, x, y, v)),
         Signal::Real(r) => Signal::Whole(curved(response, x, y, nearest(r))),

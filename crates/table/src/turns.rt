@@ -4,7 +4,6 @@ ghost use Rattle.table.specs.Table.{looked_up};
 ghost use Rattle.table.specs.Tables.{table_signal, table_turn};
 ghost use Rattle.unit.specs.Each.{each};
 
-use crate::Points;
 use dictionary::slots::{
     TABLE_ENTRIES, TABLE_NUMBER, TABLE_RESPONSE, TABLE_SOURCE, TABLE_VALUE, TABLE_X, TABLE_Y, Unit,
 };
@@ -26,11 +25,9 @@ fn curve(unit: &[u32], signal: Signal, response: usize, x: usize, y: usize) -> S
     let y_end = y + 11;
     crate::look_up(
         signal,
-        Points {
-            response: &unit[response..response_end],
-            x: &unit[x..x_end],
-            y: &unit[y..y_end],
-        },
+        &unit[response..response_end],
+        &unit[x..x_end],
+        &unit[y..y_end],
     )
 }
 
