@@ -3,7 +3,8 @@
     python3 line.py    status 1 at a function of the routine that has something wider, with its name and what it has
 
 What the kit lowers the crate to is read, as `rattle check --generated` prints it: `line` and `limited`, and every function that they reach. A
-type, a number or a cast of 64 bits, and any floating-point number, is refused. The check's own check: the same routine widened to 64 bits, in a copy, where
+type, a number or a cast of 64 bits, and any floating-point number, is refused. Of the library's functions only conversions may be reached between numbers of at most 32
+bits, as their names tell; any other is refused. The check's own check: the same routine widened to 64 bits, in a copy, where
 each function that was widened must be named.
 """
 
@@ -20,6 +21,7 @@ import kit  # noqa: E402
 
 ROUTINE = ("numbers::whole_line::line", "numbers::whole_line::limited")
 WIDER = re.compile(r"\bSyntax\.w(?:64|128)\b|\b\w*(?:float|binary)\w*")
+NARROW = re.compile(r"std::(?:prelude::[IU](?:16|32)From[IU](?:8|16)::from|below::core::int::[iu](?:8|16|32)::cast_(?:un)?signed)")
 
 
 def functions(crate):
@@ -36,11 +38,13 @@ def functions(crate):
 
 
 def reached(every):
-    """The routine's functions: those that are called from it, however far."""
+    """The routine's functions: those that are called from it, however far, but for the library's narrow conversions."""
     found, waiting = [], list(ROUTINE)
     while waiting:
         name = waiting.pop()
-        if name not in found:
+        if name not in every:
+            assert NARROW.fullmatch(name), "%s is the library's, and no conversion of at most 32 bits" % name
+        elif name not in found:
             found.append(name)
             waiting += [path.replace(".proofs.", "::").replace(".", "::") for path in re.findall(r"^use Rattle\.(\S+)\.Symbol\b", every[name], re.M)]
     return found
