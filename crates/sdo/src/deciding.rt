@@ -63,7 +63,7 @@ fn write(unit: &Unit, frame: &[u8; 8], size: Option<u8>, named: Named) -> Result
     offer(unit, frame, size, slot)
 }
 
-pub(crate) fn obey(unit: &Unit, frame: &[u8; 8]) -> Result<Done, Abort>
+fn obey(unit: &Unit, frame: &[u8; 8]) -> Result<Done, Abort>
     ensures { result ≡ obeyed unit.now frame.now (command_of (get_or frame.now 0 0)) }
 {
     let command = command(frame[0])?;
@@ -85,7 +85,7 @@ fn eight(frame: &[u8]) -> [u8; 8]
 }
 
 // The frame, if it is answered at all.
-pub(crate) fn heard(frame: &[u8], room: usize) -> Option<[u8; 8]>
+fn heard(frame: &[u8], room: usize) -> Option<[u8; 8]>
     ensures { MatchOption result (silent frame.now room ≡ true) (λ f. (silent frame.now room ≡ false) × (f ≡ frame.now)) }
 {
     if frame.len() != 8 {

@@ -3,13 +3,13 @@ ghost use Rattle.std.specs.Prelude.{◌≡◌, ◌++◌, ◌≤◌, Some, length
 ghost use Rattle.sdo.specs.Frames.{read_command, cut, reply};
 ghost use Rattle.sdo.specs.Served.{Served, after, filled};
 
-use crate::deciding::{heard, obey};
+use crate::deciding::decide;
 use crate::types::{Abort, Done};
 use dictionary::slots::{TICKED, Unit};
 
 // The eight bytes of a reply, store by store: an array that is made whole and copied costs every frame ten instructions more.
-fn respond(frame: &[u8; 8], out: &mut [u8], head: u8, value: u32)
-    requires { 8 ≤ length out.old }
+fn respond(frame: &[u8], out: &mut [u8], head: u8, value: u32)
+    requires { (length frame.now ≡ 8) × (8 ≤ length out.old) }
     ensures { out.new ≡ reply frame.now head value ++ drop 8 out.old }
 {
     let bytes = value.to_le_bytes();
@@ -24,8 +24,8 @@ fn respond(frame: &[u8; 8], out: &mut [u8], head: u8, value: u32)
 }
 
 // The reply that shows a value of so many bytes.
-fn show(frame: &[u8; 8], out: &mut [u8], word: u32, size: u8)
-    requires { 8 ≤ length out.old }
+fn show(frame: &[u8], out: &mut [u8], word: u32, size: u8)
+    requires { (length frame.now ≡ 8) × (8 ≤ length out.old) }
     ensures { out.new ≡ reply frame.now (read_command size) (cut word size) ++ drop 8 out.old }
 {
     match size {
@@ -35,8 +35,8 @@ fn show(frame: &[u8; 8], out: &mut [u8], word: u32, size: u8)
     }
 }
 
-fn send(frame: &[u8; 8], out: &mut [u8], answer: Result<Done, Abort>)
-    requires { 8 ≤ length out.old }
+fn send(frame: &[u8], out: &mut [u8], answer: Result<Done, Abort>)
+    requires { (length frame.now ≡ 8) × (8 ≤ length out.old) }
     ensures { out.new ≡ filled out.old frame.now (Some answer) }
 {
     match answer {
@@ -73,9 +73,8 @@ fn keep(unit: &mut Unit, answer: Result<Done, Abort>)
 pub fn serve(unit: &mut Unit, frame: &[u8], reply: &mut [u8]) -> Option<Result<Done, Abort>>
     ensures { Served unit.old frame.now reply.old unit.new reply.new result }
 {
-    let frame = heard(frame, reply.len())?;
-    let answer = obey(unit, &frame);
+    let answer = decide(unit, frame, reply.len())?;
     keep(unit, answer);
-    send(&frame, reply, answer);
+    send(frame, reply, answer);
     Some(answer)
 }
