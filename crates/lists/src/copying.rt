@@ -6,8 +6,6 @@ ghost use Rattle.octets.specs.Little.{bytes};
 ghost use Rattle.lists.specs.Noting.{Stands, record_from};
 ghost use Rattle.lists.specs.Copying.{Standing};
 
-use octets::putting::put;
-
 // Four bytes: all are read before one is written, so that they can go as one word. A copy by the library's method calls C's memmove, or gives a slice back
 // in a struct, which lies otherwise on a 32-bit chip.
 fn put_four(list: &mut [u8], at: usize, wanted: &[u8], place: usize)
@@ -45,12 +43,13 @@ fn copy_record(wanted: &[u8], place: usize, list: &mut [u8], at: usize) -> usize
     at + past + 8
 }
 
-// The count in four bytes.
+// The count in four bytes, moved as a word: of a piece whose length it does not know the compiler makes a call of C's memcpy, and libgateway.a asks
+// nobody for one.
 fn put_count(list: &mut [u8], count: usize)
     requires { 4 ≤ length list.old }
     ensures { list.new ≡ sets list.old 0 (bytes 4 count) }
 {
-    put(list, 0, &count.to_le_bytes()[..4]);
+    put_four(list, 0, &count.to_le_bytes(), 0);
 }
 
 // The count, and behind it the records.
