@@ -1,2 +1,1 @@
 pub mod LogicLaws
-pub mod OrderedLaws

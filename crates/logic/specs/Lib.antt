@@ -2,4 +2,3 @@ pub mod Digits
 pub mod Gathering
 pub mod Logic
 pub mod Logics
-pub mod Ordered

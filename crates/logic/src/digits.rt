@@ -1,8 +1,7 @@
 // Document 02 (vii): the digits of a source, and two whole numbers compared with theirs.
 ghost use Rattle.std.specs.Prelude.{◌≡◌, ◌+◌, ◌-◌, ◌%◌, ◌<◌, pos, ◌*ℤ◌, get_or};
-ghost use Rattle.logic.specs.Digits.{within, y_digits, digits_of, tens, in_same_digits};
+ghost use Rattle.logic.specs.Digits.{within, y_digits, digits_of, tens, orders, in_same_digits};
 
-use crate::compare;
 use dictionary::slots::{
     EC_DIGITS, INPUT_DIGITS, LOGIC_SELECTED, TABLE_ENTRIES, TABLE_Y_DIGITS, Unit,
 };
@@ -70,8 +69,21 @@ fn scaled(v: i16, digits: u8) -> i32
     i32::from(v) * tens(digits)
 }
 
+fn order(comparison: u8, x: i32, y: i32) -> bool
+    ensures { result ≡ orders comparison x y }
+{
+    match comparison {
+        0 => x == y,
+        1 => x != y,
+        2 => x > y,
+        3 => x >= y,
+        4 => x < y,
+        _ => x <= y,
+    }
+}
+
 pub fn in_same_digits(comparison: u8, v: i16, d: u8, w: i16, e: u8) -> bool
     ensures { result ≡ in_same_digits comparison v d w e }
 {
-    compare(comparison, scaled(v, e), scaled(w, d))
+    order(comparison, scaled(v, e), scaled(w, d))
 }

@@ -6,8 +6,7 @@ pub mod gathering;
 pub mod turns;
 
 ghost use Rattle.std.specs.Prelude.{◌≡◌};
-ghost use Rattle.logic.specs.Logic.{compared, verdict};
-ghost use Rattle.logic.specs.Ordered.{ordered};
+ghost use Rattle.logic.specs.Logic.{compares, compared, verdict};
 ghost use Rattle.signals.specs.Signal.{as_real};
 
 use signals::reading::{absent, as_real};
@@ -22,10 +21,11 @@ pub enum Verdict {
     NotAvailable,
 }
 
-// Of REAL32, and of whole numbers in the same digits.
-#[tactic(auto, unfolding(crate::specs::Ordered::ordered, numbers::specs::Choice::first))]
-fn compare<T: PartialOrd + Copy>(comparison: u8, x: T, y: T) -> bool
-    ensures { result ≡ ordered T.eq T.partial_cmp comparison x y }
+// Of REAL32; `order` in digits.rt is that of whole numbers in the same digits. One function for both goes by the library's partial_cmp, and where a chip has
+// no REAL32 that is up to four calls of the compiler's library for one, and a name more that libfirmware.a asks for.
+#[tactic(auto, using(numbers::proofs::Tests::tests), unfolding(crate::specs::Logic::compares, numbers::specs::Choice::first))]
+fn compare(comparison: u8, x: f32, y: f32) -> bool
+    ensures { result ≡ compares comparison x y }
 {
     match comparison {
         0 => x == y,

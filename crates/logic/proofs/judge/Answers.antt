@@ -1,11 +1,9 @@
 -- `judge`: both numbers are there, or the definition says Error.
 -- Assumes nothing.
 use borrow.Enum.Refused.{opened}
-use mathlib.Core.Path.{◌∙◌}
 use Rattle.numbers.specs.Choice.{first}
 use Rattle.logic.specs.Logic.{compared, compared_to}
 use Rattle.logic.proofs.LogicLaws.{no_left, no_right}
-use Rattle.logic.proofs.OrderedLaws.{of_real}
 use Rattle.logic.proofs.judge.Goals as goal
 
 pub returns-in_default : goal.returns-in_default
@@ -19,9 +17,9 @@ returns-in_default-as_real c =
 pub returns-then-compare : goal.returns-then-compare
 unfolding compared compared_to first
 returns-then-compare c =
-    rw (← c.as_real.ensures, c.in-Real.is, ← c.as_real-2.ensures, c.in-Real-as_real.is, ← (c.compare.ensures ∙ of_real _ _ _), c.if-compare.true)
+    rw (← c.as_real.ensures, c.in-Real.is, ← c.as_real-2.ensures, c.in-Real-as_real.is, ← c.compare.ensures, c.if-compare.true)
 
 pub returns : goal.returns
 unfolding compared compared_to first
 returns c =
-    rw (← c.as_real.ensures, c.in-Real.is, ← c.as_real-2.ensures, c.in-Real-as_real.is, ← (c.compare.ensures ∙ of_real _ _ _), c.if-compare.false)
+    rw (← c.as_real.ensures, c.in-Real.is, ← c.as_real-2.ensures, c.in-Real-as_real.is, ← c.compare.ensures, c.if-compare.false)

@@ -1,7 +1,6 @@
 -- By the second argument: a whole number with its digits, all else as before.
 -- Assumes nothing.
 use Prim.Native.Nat.{◌+◌}
-use mathlib.Core.Path.{◌∙◌}
 use borrow.Author.Rules.{rules}
 use mir.Syntax.{w16}
 use mir.Val.{SFits}
@@ -11,7 +10,6 @@ use Rattle.signals.specs.Signal.{as_real, whole}
 use Rattle.logic.specs.Logic.{compared, compared_to, verdict, judged}
 use Rattle.logic.specs.Logics.{judged_at}
 use Rattle.logic.proofs.turns.Arguments.{argued, with_digits}
-use Rattle.logic.proofs.OrderedLaws.{of_real}
 use Rattle.logic.proofs.turns.against_whole.Goals as goal
 
 pub returns-in-Whole : goal.returns-in-Whole
@@ -37,7 +35,7 @@ returns-in-Real c =
       ← argued c.args.asked.unit.now (c.args.asked.at + 2) c.right-second.ensures c.look_up-right.ensures,
       c.in-Real.is,
       ← c.comparison-in-Real.ensures,
-      ← ((rw (to_z-of_z c.ranges.v) at c.compare.ensures) ∙ of_real _ _ _),
+      ← (rw (to_z-of_z c.ranges.v) at c.compare.ensures),
     ) c.told-in-Real.ensures
 
 pub returns-in-Error : goal.returns-in-Error
