@@ -6,7 +6,7 @@ use std::fmt;
 // Room for an image and for one byte more, which tells that a file is too long; room enough for a path and a list too.
 pub const ROOM: usize = 5208;
 
-#[derive(Drop)]
+#[derive(Clone, Copy)]
 pub struct Buffer {
     room: [u8; ROOM],
     end: usize,
