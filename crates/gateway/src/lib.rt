@@ -9,6 +9,7 @@ use lists::types::Unmade;
 use records::types::Refusal;
 
 // "-n for the current image, -(10+n) for the wanted, then -8 for room"
+#[tactic(auto, unfolding(crate::specs::Restored::told, records::specs::Walk::number))]
 fn number_of(unmade: Unmade) -> i32
     ensures { result ≡ told (Err unmade) }
 {
